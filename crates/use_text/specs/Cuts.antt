@@ -1,0 +1,43 @@
+-- The commands of a stream.
+use Rattle.std.specs.Prelude.{ℕ, ◌+◌, ◌≡◌, nat_le, if◌then◌else◌, List, [], ◌∷◌, ◌++◌, length}
+use Rattle.use_text.specs.declared.cut.Cut.{Cut}
+use Rattle.use_text.specs.declared.cut.Fate.{Fate}
+use Rattle.use_text.specs.declared.cut.Fate.TheVariants.{Whole, TooLong}
+use Rattle.use_text.specs.Lines.{lines, ended_lines, open_line, is_white_line}
+
+abbrev pub cut_of : List ℕ → ℕ → Fate → Cut
+cut_of text line fate = record { text = text; first_line = line; fate = fate }
+
+-- the most bytes of a command
+abbrev pub max_command : ℕ
+max_command = 65536
+
+-- the command of a line, if it gives one
+abbrev pub line_cut : ℕ → List ℕ → List Cut
+line_cut n line =
+    if is_white_line line then []
+    else (if nat_le (length line) max_command then cut_of line n Whole ∷ [] else cut_of [] n TooLong ∷ [])
+
+-- the commands of lines, the first of which has this number
+abbrev pub lines_cuts : ℕ → List (List ℕ) → List Cut
+lines_cuts n [] = []
+lines_cuts n (line ∷ more) = line_cut n line ++ lines_cuts (n + 1) more
+
+-- the commands of a whole input
+abbrev pub cuts : List ℕ → List Cut
+cuts bytes = lines_cuts 1 (lines bytes)
+
+-- the commands that have ended, of an input that may go on
+abbrev pub ended : List ℕ → List Cut
+ended bytes = lines_cuts 1 (ended_lines bytes)
+
+-- what a cutter holds: the open line, how many lines have ended, and the commands that it has not given yet
+pub record Cutting : Type 0 where
+  pub rest : List ℕ
+  pub count : ℕ
+  pub waiting : List Cut
+
+-- a cutter that was fed these bytes
+pub record StandsFor (c : Cutting) (bytes : List ℕ) : Type 0 where
+  pub rest : c.rest ≡ open_line bytes
+  pub count : c.count ≡ length (ended_lines bytes)

@@ -1,0 +1,49 @@
+-- The lines of bytes.
+use Rattle.std.specs.Prelude.{ℕ, ◌+◌, ◌==◌, Bool, ◌||◌, if◌then◌else◌, List, [], ◌∷◌}
+use Rattle.std.specs.List.{list_all}
+
+abbrev pub onto_first : ℕ → List (List ℕ) → List (List ℕ)
+onto_first b [] = (b ∷ []) ∷ []
+onto_first b (part ∷ parts) = (b ∷ part) ∷ parts
+
+-- the parts between line feeds
+abbrev pub parts : List ℕ → List (List ℕ)
+parts [] = [] ∷ []
+parts (b ∷ bytes) = if b == 10 then [] ∷ parts bytes else onto_first b (parts bytes)
+
+-- all but the last part
+abbrev pub ended_parts : List (List ℕ) → List (List ℕ)
+ended_parts [] = []
+ended_parts (part ∷ []) = []
+ended_parts (part ∷ next ∷ parts) = part ∷ ended_parts (next ∷ parts)
+
+-- a last part counts if it is not empty
+abbrev pub counted_parts : List (List ℕ) → List (List ℕ)
+counted_parts [] = []
+counted_parts ([] ∷ []) = []
+counted_parts ((b ∷ bytes) ∷ []) = (b ∷ bytes) ∷ []
+counted_parts (part ∷ next ∷ parts) = part ∷ counted_parts (next ∷ parts)
+
+abbrev pub last_part : List (List ℕ) → List ℕ
+last_part [] = []
+last_part (part ∷ []) = part
+last_part (part ∷ next ∷ parts) = last_part (next ∷ parts)
+
+-- the lines of bytes
+abbrev pub lines : List ℕ → List (List ℕ)
+lines bytes = counted_parts (parts bytes)
+
+-- the lines that a line feed ends
+abbrev pub ended_lines : List ℕ → List (List ℕ)
+ended_lines bytes = ended_parts (parts bytes)
+
+-- what follows the last line feed
+abbrev pub open_line : List ℕ → List ℕ
+open_line bytes = last_part (parts bytes)
+
+-- space, tab and carriage return
+abbrev pub is_blank : ℕ → Bool
+is_blank b = (b == 32) || (b == 9) || (b == 13)
+
+abbrev pub is_white_line : List ℕ → Bool
+is_white_line line = list_all is_blank line

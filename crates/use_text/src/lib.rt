@@ -1,0 +1,22 @@
+//! From bytes to commands and tokens: cuts of a stream, tokens with their places, and refusals.
+#![tactic(auto)]
+
+mod code;
+mod cut;
+mod place;
+mod refusal;
+mod token;
+
+pub use code::{Code, Family, text_of};
+pub use cut::{Cut, Fate};
+pub use place::Place;
+pub use refusal::Refusal;
+pub use token::{Token, TokenKind};
+
+use use_lists::Items;
+
+/// Bytes that contracts see as their list.
+pub type Bytes = Items<u8>;
+
+/// The tokens of a text; the last one is `End`.
+pub type Tokens = Items<Token>;
