@@ -3,12 +3,15 @@
 
 mod code;
 mod cut;
+mod lexer;
+mod piece;
 mod place;
 mod refusal;
 mod token;
 
 pub use code::{Code, Family, text_of};
 pub use cut::{Cut, Fate};
+pub use lexer::{LexFault, lex};
 pub use place::Place;
 pub use refusal::Refusal;
 pub use token::{Token, TokenKind};

@@ -1,0 +1,203 @@
+ghost use Rattle.std.specs.Prelude.{◌≡◌, ◌+◌, ◌<◌, ◌≤◌, ◌^◌, ◌-◌, length, drop, IfOk, IfErr, IfSome, OnOk, All, ◌++◌, option_to_list};
+ghost use Rattle.use_text.specs.Places.{behind, behind_all, IsAdvanced};
+ghost use Rattle.use_text.specs.Tokens.{tokens, tokens_from, after_step, Lexes, IsWithin, IsFront, IsPieceAt, IsNearStart};
+ghost use Rattle.use_text.specs.Pieces.{piece_of};
+ghost use Rattle.use_text.specs.declared.piece.Piece.TheVariants.{White, Token as TokenPiece};
+
+use crate::piece::{Piece, piece_of};
+use crate::{Place, Refusal, Token, TokenKind, Tokens};
+use std::alloc::{AllocError, AllocFailed, Global};
+use use_lists::Items;
+
+/// Why a text gives no tokens.
+#[derive(Clone, Copy, Debug, PartialEq, Eq)]
+pub enum LexFault {
+    Memory,
+    Bad(Refusal),
+}
+
+impl From<AllocError> for LexFault {
+    ghost use Rattle.use_text.specs.declared.lexer.LexFault.TheVariants.{Memory};
+
+    ghost from_gives = { λ _ e. e ≡ Memory };
+
+    fn from(_: AllocError) -> Self {
+        LexFault::Memory
+    }
+}
+
+impl<T: Drop> From<AllocFailed<T>> for LexFault {
+    ghost use Rattle.use_text.specs.declared.lexer.LexFault.TheVariants.{Memory};
+
+    ghost from_gives = { λ _ e. e ≡ Memory };
+
+    fn from(_: AllocFailed<T>) -> Self {
+        LexFault::Memory
+    }
+}
+
+/// Where the reading of a text has come: the bytes read, their end's place, and the token that would
+/// end the list here. A step may have read one token.
+#[derive(Drop)]
+struct Step {
+    token: Option<Token>,
+    at: usize,
+    place: Place,
+    end: Token,
+}
+
+/// The place behind a byte.
+fn behind(place: Place, b: u8) -> Place
+    requires line { place.line + 1 < 2 ^ 32 }
+    requires col { place.col + 1 < 2 ^ 32 }
+    ensures { result ≡ behind place b }
+{
+    if b == b'\n' {
+        Place {
+            line: place.line + 1,
+            col: 1,
+        }
+    } else {
+        Place {
+            line: place.line,
+            col: place.col + 1,
+        }
+    }
+}
+
+/// The place behind bytes.
+fn behind_all(place: Place, bytes: &[u8]) -> Place
+    requires line { place.line + length bytes.now < 2 ^ 32 }
+    requires col { place.col + length bytes.now < 2 ^ 32 }
+    ensures place { result ≡ behind_all place bytes.now }
+    ensures advanced { IsAdvanced place result (length bytes.now) }
+{
+    let mut place = place;
+    'bytes: for b in bytes {
+        place = behind(place, *b);
+    }
+    place
+}
+
+/// What stands at a place of a text, and where it ends.
+fn piece_at(text: &[u8], at: usize) -> Piece
+    requires { at < length text.now }
+    ensures piece { result ≡ piece_of (drop at text.now) }
+    ensures front { IsFront result (length (drop at text.now)) }
+{
+    piece_of(&text[at..])
+}
+
+/// The step over white space of so many bytes.
+fn white_step(text: &[u8], at: usize, place: Place, end: Token, count: usize) -> Step
+    requires white { IsPieceAt text.now at (White count) count }
+    requires near { IsNearStart text.now at place }
+    requires end { IsWithin (length text.now) end }
+    ensures read { tokens_from 0 at place end (drop at text.now) ≡ after_step result.token (tokens_from 0 result.at result.place result.end (drop result.at text.now)) }
+    ensures ahead { result.at ≡ at + count }
+    ensures near { IsAdvanced place result.place count }
+    ensures token { IfSome result.token (IsWithin (length text.now)) }
+    ensures end { IsWithin (length text.now) result.end }
+{
+    Step {
+        token: None,
+        at: at + count,
+        place: behind_all(place, &text[at..at + count]),
+        end,
+    }
+}
+
+/// The step over a token of so many bytes.
+fn token_step(text: &[u8], at: usize, place: Place, end: Token, kind: TokenKind, count: usize) -> Step
+    requires token { IsPieceAt text.now at (TokenPiece kind count) count }
+    requires near { IsNearStart text.now at place }
+    requires end { IsWithin (length text.now) end }
+    ensures read { tokens_from 0 at place end (drop at text.now) ≡ after_step result.token (tokens_from 0 result.at result.place result.end (drop result.at text.now)) }
+    ensures ahead { result.at ≡ at + count }
+    ensures near { IsAdvanced place result.place count }
+    ensures token { IfSome result.token (IsWithin (length text.now)) }
+    ensures end { IsWithin (length text.now) result.end }
+{
+    let start = at as u32;
+    let stop = (at + count) as u32;
+    Step {
+        token: Some(Token {
+            kind: kind.number(),
+            start,
+            end: stop,
+            place,
+        }),
+        at: at + count,
+        place: behind_all(place, &text[at..at + count]),
+        end: Token {
+            kind: TokenKind::End.number(),
+            start: stop,
+            end: stop,
+            place: Place {
+                line: place.line,
+                col: place.col + count as u32,
+            },
+        },
+    }
+}
+
+/// One step of the reading: what stands at `at` is a token, white space, or refused.
+fn next_step(text: &[u8], at: usize, place: Place, end: Token) -> Result<Step, Refusal>
+    requires within { at < length text.now }
+    requires near { IsNearStart text.now at place }
+    requires end { IsWithin (length text.now) end }
+    ensures ok { IfOk result (λ s. tokens_from 0 at place end (drop at text.now) ≡ after_step s.token (tokens_from 0 s.at s.place s.end (drop s.at text.now))) }
+    ensures bad { IfErr result (λ r. tokens_from 0 at place end (drop at text.now) ≡ Err r) }
+    ensures ahead { IfOk result (λ s. (at < s.at) × (s.at ≤ length text.now)) }
+    ensures near { IfOk result (λ s. IsAdvanced place s.place (s.at - at)) }
+    ensures token { IfOk result (λ s. IfSome s.token (IsWithin (length text.now))) }
+    ensures end { IfOk result (λ s. IsWithin (length text.now) s.end) }
+{
+    match piece_at(text, at) {
+        Piece::White { length } => Ok(white_step(text, at, place, end, length)),
+        Piece::Token { kind, length } => Ok(token_step(text, at, place, end, kind, length)),
+        Piece::Bad { code } => Err(Refusal { code, place }),
+    }
+}
+
+fn push_if_some(tokens: &mut Vec<Token>, token: Option<Token>) -> Result<(), AllocError>
+    ensures { OnOk result (tokens.new.items ≡ tokens.old.items ++ option_to_list token) }
+{
+    if let Some(token) = token {
+        tokens.push(token)?;
+    }
+    Ok(())
+}
+
+/// The tokens of a text whose first line has this number.
+pub fn lex(alloc: Global, text: &[u8], first_line: u32) -> Result<Tokens, LexFault>
+    requires text { length text.now ≤ 4194304 }
+    requires line { first_line ≤ 4000000000 }
+    ensures tokens { Lexes (tokens first_line text.now) result }
+    ensures within { IfOk result (All (IsWithin (length text.now))) }
+{
+    let mut tokens = Vec::new(alloc);
+    let mut at = 0usize;
+    let mut place = Place {
+        line: first_line,
+        col: 1,
+    };
+    let mut end = Token {
+        kind: TokenKind::End.number(),
+        start: 0,
+        end: 0,
+        place,
+    };
+    'pieces: while at < text.len() {
+        let next = match next_step(text, at, place, end) {
+            Ok(next) => next,
+            Err(refusal) => return Err(LexFault::Bad(refusal)),
+        };
+        push_if_some(&mut tokens, next.token)?;
+        at = next.at;
+        place = next.place;
+        end = next.end;
+    }
+    tokens.push(end)?;
+    Ok(Items::from_vec(tokens))
+}
