@@ -1,0 +1,4 @@
+pub mod Causes
+pub mod Shelves
+pub mod Reading
+pub mod Held
