@@ -1,2 +1,4 @@
 pub mod PieceLemmas
 pub mod TokenLemmas
+pub mod LineLemmas
+pub mod CutLemmas

@@ -1,8 +1,7 @@
 -- A piece is not empty, and stands within its bytes.
-use Rattle.std.proofs.Common.{◌≡◌, ◌≢◌, ℕ, zero, suc, ◌+◌, ◌<◌, ◌≤◌, ◌==◌, Bool, true, false, cond, nat_le, List, [], ◌∷◌, length, take_while, is_some, arith, refl, sym, ap, rules, ◌||◌, Option, Some, None, ℤ}
+use Rattle.std.proofs.Common.{◌≡◌, ℕ, ◌<◌, ◌≤◌, ◌==◌, Bool, true, false, cond, nat_le, List, [], ◌∷◌, length, take_while, is_some, arith, refl}
 use Rattle.std.proofs.lemmas.List.Sums.{take_while-cons}
 use Rattle.std.proofs.lemmas.Grind.{common_steps}
-use Rattle.use_text.specs.declared.token.TokenKind.{TokenKind}
 use Rattle.use_text.specs.declared.token.TokenKind.TheVariants.{Int, Question, Plus}
 use Rattle.use_text.specs.declared.code.Family.TheVariants.{L}
 use Rattle.use_text.specs.declared.piece.Piece.{Piece}

@@ -1,5 +1,5 @@
 -- Reading a piece, and then what follows it.
-use Rattle.std.proofs.Common.{◌≡◌, ℕ, zero, suc, ◌+◌, ◌-◌, ◌<◌, ◌≤◌, List, [], ◌∷◌, ◌++◌, length, take, drop, slice_index, fold, Option, Some, None, Result, Ok, Err, arith, refl, sym, ap, ◌∙◌, subst, append_assoc, append-nil, option_to_list, length-drop, All, IfSome}
+use Rattle.std.proofs.Common.{◌≡◌, ℕ, zero, suc, ◌+◌, ◌-◌, ◌<◌, ◌≤◌, List, [], ◌∷◌, ◌++◌, length, take, drop, Option, Some, None, Ok, Err, arith, refl, ap, ◌∙◌, append_assoc, append-nil, option_to_list, length-drop, All, IfSome}
 use Rattle.std.proofs.lemmas.List.Elements.{All-push}
 use Rattle.std.proofs.lemmas.List.{drop-drop}
 use Rattle.use_text.specs.declared.place.Place.{Place}
@@ -7,7 +7,6 @@ use Rattle.use_text.specs.declared.token.Token.{Token as TokenAt}
 use Rattle.use_text.specs.declared.token.TokenKind.{TokenKind}
 use Rattle.use_text.specs.declared.token.TokenKind.TheVariants.{End}
 use Rattle.use_text.specs.declared.code.Code.{Code}
-use Rattle.use_text.specs.declared.piece.Piece.{Piece}
 use Rattle.use_text.specs.declared.piece.Piece.TheVariants.{White, Token, Bad}
 use Rattle.use_text.specs.Places.{place_at, behind, behind_all}
 use Rattle.use_text.specs.Pieces.{piece_of}

@@ -1,5 +1,5 @@
 -- The commands of a stream.
-use Rattle.std.specs.Prelude.{ℕ, ◌+◌, ◌≡◌, nat_le, if◌then◌else◌, List, [], ◌∷◌, ◌++◌, length}
+use Rattle.std.specs.Prelude.{ℕ, ◌+◌, ◌≡◌, ◌≤◌, nat_le, if◌then◌else◌, List, [], ◌∷◌, ◌++◌, length, drop}
 use Rattle.use_text.specs.declared.cut.Cut.{Cut}
 use Rattle.use_text.specs.declared.cut.Fate.{Fate}
 use Rattle.use_text.specs.declared.cut.Fate.TheVariants.{Whole, TooLong}
@@ -12,11 +12,13 @@ cut_of text line fate = record { text = text; first_line = line; fate = fate }
 abbrev pub max_command : ℕ
 max_command = 65536
 
+-- the command of a line that is not white
+abbrev pub dark_cut : ℕ → List ℕ → Cut
+dark_cut n line = if nat_le (length line) max_command then cut_of line n Whole else cut_of [] n TooLong
+
 -- the command of a line, if it gives one
 abbrev pub line_cut : ℕ → List ℕ → List Cut
-line_cut n line =
-    if is_white_line line then []
-    else (if nat_le (length line) max_command then cut_of line n Whole ∷ [] else cut_of [] n TooLong ∷ [])
+line_cut n line = if is_white_line line then [] else dark_cut n line ∷ []
 
 -- the commands of lines, the first of which has this number
 abbrev pub lines_cuts : ℕ → List (List ℕ) → List Cut
@@ -37,7 +39,21 @@ pub record Cutting : Type 0 where
   pub count : ℕ
   pub waiting : List Cut
 
--- a cutter that was fed these bytes
+-- the cutter was fed these bytes
 pub record StandsFor (c : Cutting) (bytes : List ℕ) : Type 0 where
   pub rest : c.rest ≡ open_line bytes
   pub count : c.count ≡ length (ended_lines bytes)
+
+-- whatever it was fed, it was fed the piece behind it, and the commands that ended by the piece wait
+abbrev pub IsFed : Cutting → List ℕ → Cutting → Type 0
+IsFed old piece new =
+    (bytes : List ℕ) → StandsFor old bytes → StandsFor new (bytes ++ piece) × (new.waiting ≡ old.waiting ++ drop (length (ended bytes)) (ended (bytes ++ piece)))
+
+-- whatever it was fed, these are the commands of the whole input beyond those that have ended
+abbrev pub IsFinished : Cutting → List Cut → Type 0
+IsFinished old more = (bytes : List ℕ) → StandsFor old bytes → more ≡ drop (length (ended bytes)) (cuts bytes)
+
+-- the text is not too long, and the line is one of so many
+pub record IsCommand (lines : ℕ) (c : Cut) : Type 0 where
+  pub text : length c.text ≤ max_command
+  pub line : c.first_line ≤ lines

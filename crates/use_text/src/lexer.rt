@@ -7,12 +7,15 @@ ghost use Rattle.use_text.specs.declared.piece.Piece.TheVariants.{White, Token a
 use crate::piece::{Piece, piece_of};
 use crate::{Place, Refusal, Token, TokenKind, Tokens};
 use std::alloc::{AllocError, AllocFailed, Global};
+use thiserror::Error;
 use use_lists::Items;
 
 /// Why a text gives no tokens.
-#[derive(Clone, Copy, Debug, PartialEq, Eq)]
+#[derive(Clone, Copy, Debug, PartialEq, Eq, Error)]
 pub enum LexFault {
+    #[error("out of memory")]
     Memory,
+    #[error("{0}")]
     Bad(Refusal),
 }
 
@@ -108,7 +111,14 @@ fn white_step(text: &[u8], at: usize, place: Place, end: Token, count: usize) ->
 }
 
 /// The step over a token of so many bytes.
-fn token_step(text: &[u8], at: usize, place: Place, end: Token, kind: TokenKind, count: usize) -> Step
+fn token_step(
+    text: &[u8],
+    at: usize,
+    place: Place,
+    end: Token,
+    kind: TokenKind,
+    count: usize,
+) -> Step
     requires token { IsPieceAt text.now at (TokenPiece kind count) count }
     requires near { IsNearStart text.now at place }
     requires end { IsWithin (length text.now) end }

@@ -3,6 +3,7 @@
 
 mod code;
 mod cut;
+mod cutter;
 mod lexer;
 mod piece;
 mod place;
@@ -11,11 +12,11 @@ mod token;
 
 pub use code::{Code, Family, text_of};
 pub use cut::{Cut, Fate};
+pub use cutter::Cutter;
 pub use lexer::{LexFault, lex};
 pub use place::Place;
 pub use refusal::Refusal;
 pub use token::{Token, TokenKind};
-
 use use_lists::Items;
 
 /// Bytes that contracts see as their list.

@@ -1,4 +1,4 @@
-use Rattle.std.proofs.Common.{◌≡◌, take, ◌≤◌}
+use Rattle.std.proofs.Common.{◌≡◌, take}
 use Rattle.use_text.specs.Places.{behind_all, IsAdvanced}
 use Rattle.use_text.proofs.lexer.behind_all.Given as goal
 

@@ -1,5 +1,5 @@
-use Rattle.std.proofs.Common.{arith, ◌≡◌, ◌∙◌, ap, drop, length}
-use Rattle.use_text.specs.Tokens.{before_all, tokens_from}
+use Rattle.std.proofs.Common.{arith, drop, length}
+use Rattle.use_text.specs.Tokens.{tokens_from}
 use Rattle.use_text.proofs.TokenLemmas.{before_some, within_some}
 use Rattle.use_text.proofs.lexer.lex.Goals as goal
 

@@ -1,0 +1,87 @@
+-- A cutter and the bytes that it was fed.
+use Rattle.std.proofs.Common.{◌≡◌, ℕ, ◌+◌, ◌<◌, ◌≤◌, List, [], ◌∷◌, ◌++◌, length, drop, arith, refl, sym, ap, ◌∙◌, append_assoc, append-nil, length-append, All, Option, Some, None, IfSome, option_to_list, Result, Ok, Err, OnOk, OnErr}
+use Rattle.std.specs.declared.alloc.AllocError.{AllocError}
+use Rattle.std.proofs.lemmas.List.Elements.{All-push}
+use Rattle.use_text.specs.declared.cut.Cut.{Cut}
+use Rattle.use_text.specs.Lines.{parts, ended_parts, last_part, ended_lines, open_line}
+use Rattle.use_text.specs.Cuts.{Cutting, IsFed, IsFinished, IsCommand, line_cut, lines_cuts, cuts, ended}
+use Rattle.use_text.proofs.LineLemmas.{glue, glue_none, parts_some, ended_cons, last_cons, ended_go_on, open_go_on, lines_some, lines_none}
+
+pub cuts_append : (n : ℕ) (xs ys : List (List ℕ)) → lines_cuts n (xs ++ ys) ≡ lines_cuts n xs ++ lines_cuts (n + length xs) ys
+cuts_append n [] ys = let e : n + 0 ≡ n = omega arith in rw e refl
+cuts_append n (x ∷ xs) ys =
+    let e : n + length (x ∷ xs) ≡ n + 1 + length xs = omega arith in
+    rw (cuts_append (n + 1) xs ys, e, append_assoc) refl
+
+drop_front : (xs ys : List Cut) → drop (length xs) (xs ++ ys) ≡ ys
+drop_front [] ys = refl
+drop_front (x ∷ xs) ys = drop_front xs ys
+
+-- the parts that a cutter has before it, where a piece goes on from a place
+abbrev pub ahead : Cutting → List ℕ → ℕ → List (List ℕ)
+ahead c piece at = glue c.rest (parts (drop at piece))
+
+-- a cutter took a piece up to a place
+pub record IsFedUpTo (old : Cutting) (piece : List ℕ) (new : Cutting) (at : ℕ) : Type 0 where
+  pub within : at ≤ length piece
+  pub few : new.count ≤ old.count + at
+  pub rest : last_part (ahead new piece at) ≡ last_part (ahead old piece 0)
+  pub count : new.count + length (ended_parts (ahead new piece at)) ≡ old.count + length (ended_parts (ahead old piece 0))
+  pub waiting : new.waiting ++ lines_cuts (new.count + 1) (ended_parts (ahead new piece at)) ≡ old.waiting ++ lines_cuts (old.count + 1) (ended_parts (ahead old piece 0))
+
+pub fed_nothing : (c : Cutting) (piece : List ℕ) → IsFedUpTo c piece c 0
+fed_nothing c piece = record { within = omega arith; few = omega arith; rest = refl; count = refl; waiting = refl }
+
+pub fed_line : (old : Cutting) (piece : List ℕ) (c new : Cutting) (at end : ℕ) (line : List ℕ) → IsFedUpTo old piece c at → at ≤ end → end < length piece → parts (drop at piece) ≡ line ∷ parts (drop (end + 1) piece)
+    → new.rest ≡ [] → new.count ≡ c.count + 1 → new.waiting ≡ c.waiting ++ line_cut (c.count + 1) (c.rest ++ line) → IsFedUpTo old piece new (end + 1)
+fed_line old piece c new at end line fed le lt is rest count waiting =
+    let some = parts_some (drop (end + 1) piece) in
+    let here : ahead c piece at ≡ (c.rest ++ line) ∷ parts (drop (end + 1) piece) = ap (glue c.rest) is in
+    let then : ahead new piece (end + 1) ≡ parts (drop (end + 1) piece) = ap (λ l. glue l (parts (drop (end + 1) piece))) rest ∙ glue_none (drop (end + 1) piece) in
+    let ended : ended_parts (ahead c piece at) ≡ (c.rest ++ line) ∷ ended_parts (ahead new piece (end + 1)) = ap ended_parts here ∙ ended_cons (c.rest ++ line) (parts (drop (end + 1) piece)) some ∙ ap (λ l. (c.rest ++ line) ∷ ended_parts l) (sym then) in
+    let last : last_part (ahead c piece at) ≡ last_part (ahead new piece (end + 1)) = ap last_part here ∙ last_cons (c.rest ++ line) (parts (drop (end + 1) piece)) some ∙ ap last_part (sym then) in
+    record {
+      within = omega arith;
+      few = omega (arith, fed.few, count);
+      rest = sym last ∙ fed.rest;
+      count = omega (arith, fed.count, count, ap length ended);
+      waiting = rw (waiting, count, append_assoc) (ap (λ l. c.waiting ++ lines_cuts (c.count + 1) l) (sym ended) ∙ fed.waiting);
+    }
+
+pub fed_all : (old : Cutting) (piece : List ℕ) (c new : Cutting) (at : ℕ) → IsFedUpTo old piece c at → parts (drop at piece) ≡ drop at piece ∷ [] → new.rest ≡ c.rest ++ drop at piece → new.count ≡ c.count → new.waiting ≡ c.waiting → IsFed old piece new
+fed_all old piece c new at fed is rest count waiting bytes stands =
+    let here : ahead c piece at ≡ (c.rest ++ drop at piece) ∷ [] = ap (glue c.rest) is in
+    let before : ahead old piece 0 ≡ glue (open_line bytes) (parts piece) = ap (λ l. glue l (parts piece)) stands.rest in
+    let rest_now : new.rest ≡ open_line (bytes ++ piece) = rest ∙ sym (ap last_part here) ∙ fed.rest ∙ ap last_part before ∙ sym (open_go_on bytes piece) in
+    let none : ended_parts (ahead c piece at) ≡ [] = ap ended_parts here in
+    let lines : ended_lines (bytes ++ piece) ≡ ended_lines bytes ++ ended_parts (ahead old piece 0) = ended_go_on bytes piece ∙ ap (λ l. ended_lines bytes ++ ended_parts l) (sym before) in
+    let all : ended (bytes ++ piece) ≡ ended bytes ++ lines_cuts (1 + length (ended_lines bytes)) (ended_parts (ahead old piece 0)) = ap (lines_cuts 1) lines ∙ cuts_append 1 (ended_lines bytes) (ended_parts (ahead old piece 0)) in
+    let first : old.count + 1 ≡ 1 + length (ended_lines bytes) = omega (arith, stands.count) in
+    let same : new.waiting ≡ old.waiting ++ lines_cuts (old.count + 1) (ended_parts (ahead old piece 0)) = waiting ∙ sym (append-nil c.waiting) ∙ ap (λ l. c.waiting ++ lines_cuts (c.count + 1) l) (sym none) ∙ fed.waiting in (
+      record { rest = rest_now; count = count ∙ omega (arith, fed.count, stands.count, ap length none, ap length lines, length-append (ended_lines bytes) (ended_parts (ahead old piece 0))) },
+      same ∙ rw (all, drop_front (ended bytes) (lines_cuts (1 + length (ended_lines bytes)) (ended_parts (ahead old piece 0))), first) refl,
+    )
+
+white_empty : (n : ℕ) → line_cut n [] ≡ []
+white_empty n = refl
+
+pub finished : (c : Cutting) (more : List Cut) → more ≡ line_cut (c.count + 1) c.rest → IsFinished c more
+finished c more is bytes stands = is ∙ rw (stands.rest) (last (open_line bytes) refl)
+  where
+    first : c.count + 1 ≡ 1 + length (ended_lines bytes)
+    first = omega (arith, stands.count)
+
+    last : (rest : List ℕ) → open_line bytes ≡ rest → line_cut (c.count + 1) rest ≡ drop (length (ended bytes)) (cuts bytes)
+    last [] at = sym (ap (λ l. drop (length (ended bytes)) (lines_cuts 1 l)) (lines_none bytes at ∙ sym (append-nil (ended_lines bytes))) ∙ ap (drop (length (ended bytes))) (cuts_append 1 (ended_lines bytes) []) ∙ drop_front (ended bytes) [])
+    last (b ∷ rest) at = sym (ap (λ l. drop (length (ended bytes)) (lines_cuts 1 l)) (lines_some bytes b rest at) ∙ ap (drop (length (ended bytes))) (cuts_append 1 (ended_lines bytes) ((b ∷ rest) ∷ [])) ∙ drop_front (ended bytes) (lines_cuts (1 + length (ended_lines bytes)) ((b ∷ rest) ∷ [])) ∙ append-nil (line_cut (1 + length (ended_lines bytes)) (b ∷ rest)) ∙ ap (λ n. line_cut n (b ∷ rest)) (sym first))
+
+command_later : (m n : ℕ) (c : Cut) → m ≤ n → IsCommand m c → IsCommand n c
+command_later m n c le is = record { text = is.text; line = omega (arith, is.line) }
+
+pub commands_more : (n : ℕ) (waiting : List Cut) (c : Option Cut) → All (IsCommand n) waiting → IfSome c (IsCommand (n + 1)) → All (IsCommand (n + 1)) (waiting ++ option_to_list c)
+commands_more n waiting None all one = rw (append-nil waiting) (λ k d lt. command_later n (n + 1) _ (omega arith) (all k d lt))
+commands_more n waiting (Some c) all one = All-push (IsCommand (n + 1)) waiting c (λ k d lt. command_later n (n + 1) _ (omega arith) (all k d lt)) one
+
+pub commands_pushed : (n : ℕ) (old new : List Cut) (c : Option Cut) (r : Result (Unit {0}) AllocError) → OnOk r (new ≡ old ++ option_to_list c) → OnErr r (new ≡ old) → All (IsCommand n) old → IfSome c (IsCommand (n + 1)) → All (IsCommand (n + 1)) new
+commands_pushed n old new c (Ok u) ok err all one = rw ok (commands_more n old c all one)
+commands_pushed n old new c (Err e) ok err all one = rw err (λ k d lt. command_later n (n + 1) _ (omega arith) (all k d lt))
