@@ -13,10 +13,6 @@ cuts_append n (x ∷ xs) ys =
     let e : n + length (x ∷ xs) ≡ n + 1 + length xs = omega arith in
     rw (cuts_append (n + 1) xs ys, e, append_assoc) refl
 
-drop_front : (xs ys : List Cut) → drop (length xs) (xs ++ ys) ≡ ys
-drop_front [] ys = refl
-drop_front (x ∷ xs) ys = drop_front xs ys
-
 -- the parts that a cutter has before it, where a piece goes on from a place
 abbrev pub ahead : Cutting → List ℕ → ℕ → List (List ℕ)
 ahead c piece at = glue c.rest (parts (drop at piece))
@@ -57,23 +53,23 @@ fed_all old piece c new at fed is rest count waiting bytes stands =
     let lines : ended_lines (bytes ++ piece) ≡ ended_lines bytes ++ ended_parts (ahead old piece 0) = ended_go_on bytes piece ∙ ap (λ l. ended_lines bytes ++ ended_parts l) (sym before) in
     let all : ended (bytes ++ piece) ≡ ended bytes ++ lines_cuts (1 + length (ended_lines bytes)) (ended_parts (ahead old piece 0)) = ap (lines_cuts 1) lines ∙ cuts_append 1 (ended_lines bytes) (ended_parts (ahead old piece 0)) in
     let first : old.count + 1 ≡ 1 + length (ended_lines bytes) = omega (arith, stands.count) in
-    let same : new.waiting ≡ old.waiting ++ lines_cuts (old.count + 1) (ended_parts (ahead old piece 0)) = waiting ∙ sym (append-nil c.waiting) ∙ ap (λ l. c.waiting ++ lines_cuts (c.count + 1) l) (sym none) ∙ fed.waiting in (
-      record { rest = rest_now; count = count ∙ omega (arith, fed.count, stands.count, ap length none, ap length lines, length-append (ended_lines bytes) (ended_parts (ahead old piece 0))) },
-      same ∙ rw (all, drop_front (ended bytes) (lines_cuts (1 + length (ended_lines bytes)) (ended_parts (ahead old piece 0))), first) refl,
-    )
-
-white_empty : (n : ℕ) → line_cut n [] ≡ []
-white_empty n = refl
+    let same : new.waiting ≡ old.waiting ++ lines_cuts (old.count + 1) (ended_parts (ahead old piece 0)) = waiting ∙ sym (append-nil c.waiting) ∙ ap (λ l. c.waiting ++ lines_cuts (c.count + 1) l) (sym none) ∙ fed.waiting in
+    record {
+      stands = record { rest = rest_now; count = count ∙ omega (arith, fed.count, stands.count, ap length none, ap length lines, length-append (ended_lines bytes) (ended_parts (ahead old piece 0))) };
+      more = lines_cuts (1 + length (ended_lines bytes)) (ended_parts (ahead old piece 0));
+      commands = all;
+      waiting = same ∙ rw first refl;
+    }
 
 pub finished : (c : Cutting) (more : List Cut) → more ≡ line_cut (c.count + 1) c.rest → IsFinished c more
-finished c more is bytes stands = is ∙ rw (stands.rest) (last (open_line bytes) refl)
+finished c more is bytes stands = last (open_line bytes) refl ∙ ap (λ l. ended bytes ++ l) (sym (is ∙ rw (stands.rest) refl))
   where
     first : c.count + 1 ≡ 1 + length (ended_lines bytes)
     first = omega (arith, stands.count)
 
-    last : (rest : List ℕ) → open_line bytes ≡ rest → line_cut (c.count + 1) rest ≡ drop (length (ended bytes)) (cuts bytes)
-    last [] at = sym (ap (λ l. drop (length (ended bytes)) (lines_cuts 1 l)) (lines_none bytes at ∙ sym (append-nil (ended_lines bytes))) ∙ ap (drop (length (ended bytes))) (cuts_append 1 (ended_lines bytes) []) ∙ drop_front (ended bytes) [])
-    last (b ∷ rest) at = sym (ap (λ l. drop (length (ended bytes)) (lines_cuts 1 l)) (lines_some bytes b rest at) ∙ ap (drop (length (ended bytes))) (cuts_append 1 (ended_lines bytes) ((b ∷ rest) ∷ [])) ∙ drop_front (ended bytes) (lines_cuts (1 + length (ended_lines bytes)) ((b ∷ rest) ∷ [])) ∙ append-nil (line_cut (1 + length (ended_lines bytes)) (b ∷ rest)) ∙ ap (λ n. line_cut n (b ∷ rest)) (sym first))
+    last : (rest : List ℕ) → open_line bytes ≡ rest → cuts bytes ≡ ended bytes ++ line_cut (c.count + 1) rest
+    last [] at = ap (lines_cuts 1) (lines_none bytes at) ∙ sym (append-nil (ended bytes))
+    last (b ∷ rest) at = ap (lines_cuts 1) (lines_some bytes b rest at) ∙ cuts_append 1 (ended_lines bytes) ((b ∷ rest) ∷ []) ∙ ap (λ l. ended bytes ++ l) (append-nil (line_cut (1 + length (ended_lines bytes)) (b ∷ rest)) ∙ ap (λ n. line_cut n (b ∷ rest)) (sym first))
 
 command_later : (m n : ℕ) (c : Cut) → m ≤ n → IsCommand m c → IsCommand n c
 command_later m n c le is = record { text = is.text; line = omega (arith, is.line) }

@@ -1,5 +1,5 @@
 -- The commands of a stream.
-use Rattle.std.specs.Prelude.{ℕ, ◌+◌, ◌≡◌, ◌≤◌, nat_le, if◌then◌else◌, List, [], ◌∷◌, ◌++◌, length, drop}
+use Rattle.std.specs.Prelude.{ℕ, ◌+◌, ◌≡◌, ◌≤◌, nat_le, if◌then◌else◌, List, [], ◌∷◌, ◌++◌, length}
 use Rattle.use_text.specs.declared.cut.Cut.{Cut}
 use Rattle.use_text.specs.declared.cut.Fate.{Fate}
 use Rattle.use_text.specs.declared.cut.Fate.TheVariants.{Whole, TooLong}
@@ -44,14 +44,20 @@ pub record StandsFor (c : Cutting) (bytes : List ℕ) : Type 0 where
   pub rest : c.rest ≡ open_line bytes
   pub count : c.count ≡ length (ended_lines bytes)
 
--- whatever it was fed, it was fed the piece behind it, and the commands that ended by the piece wait
+-- The cutter was fed these bytes, and then a piece: it stands for both, and the commands that ended by the piece wait.
+pub record FeedsOn (old : Cutting) (bytes piece : List ℕ) (new : Cutting) : Type 0 where
+  pub stands : StandsFor new (bytes ++ piece)
+  pub more : List Cut
+  pub commands : ended (bytes ++ piece) ≡ ended bytes ++ more
+  pub waiting : new.waiting ≡ old.waiting ++ more
+
+-- the same, whatever it was fed before
 abbrev pub IsFed : Cutting → List ℕ → Cutting → Type 0
-IsFed old piece new =
-    (bytes : List ℕ) → StandsFor old bytes → StandsFor new (bytes ++ piece) × (new.waiting ≡ old.waiting ++ drop (length (ended bytes)) (ended (bytes ++ piece)))
+IsFed old piece new = (bytes : List ℕ) → StandsFor old bytes → FeedsOn old bytes piece new
 
 -- whatever it was fed, these are the commands of the whole input beyond those that have ended
 abbrev pub IsFinished : Cutting → List Cut → Type 0
-IsFinished old more = (bytes : List ℕ) → StandsFor old bytes → more ≡ drop (length (ended bytes)) (cuts bytes)
+IsFinished old more = (bytes : List ℕ) → StandsFor old bytes → cuts bytes ≡ ended bytes ++ more
 
 -- the text is not too long, and the line is one of so many
 pub record IsCommand (lines : ℕ) (c : Cut) : Type 0 where

@@ -14,6 +14,7 @@ pub use code::{Code, Family, text_of};
 pub use cut::{Cut, Fate};
 pub use cutter::Cutter;
 pub use lexer::{LexFault, lex};
+pub use piece::number_of_digits;
 pub use place::Place;
 pub use refusal::Refusal;
 pub use token::{Token, TokenKind};
