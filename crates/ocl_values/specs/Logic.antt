@@ -2,6 +2,9 @@
 use Rattle.std.specs.Prelude.{ℕ, Bool, true, false, cond, ◌||◌, List, [], ◌∷◌, slice_index_or}
 use Rattle.std.specs.Ordering.{is_eq}
 use Rattle.ocl_values.specs.Order.{value_cmp}
+use Rattle.ocl_values.specs.declared.logic.Truth.{Truth}
+use Rattle.ocl_values.specs.declared.logic.Truth.TheVariants as T
+use Rattle.ocl_values.specs.declared.logic.Truth.TheVariants.{False, True}
 use Rattle.ocl_values.specs.declared.value.Value.{Value}
 use Rattle.ocl_values.specs.declared.value.Value.TheVariants as V
 use Rattle.ocl_values.specs.declared.value.Value.TheVariants.{Null, Invalid, Int, Str, Enum, Obj, Coll'}
@@ -12,25 +15,31 @@ no = V.Bool false
 abbrev pub yes : Value
 yes = V.Bool true
 
--- the row of a value in a table: false, true, null, invalid; what is no truth value counts as invalid
-abbrev pub place : Value → ℕ
-place (V.Bool false) = 0
-place (V.Bool true) = 1
-place Null = 2
-place Invalid = 3
-place (Int n) = 3
-place (Str bytes) = 3
-place (Enum e l) = 3
-place (Obj o) = 3
-place (Coll' kind shape row) = 3
+-- what a value is among the four; what is no truth value counts as invalid
+abbrev pub truth_of : Value → Truth
+truth_of (V.Bool false) = False
+truth_of (V.Bool true) = True
+truth_of Null = T.Null
+truth_of _ = T.Invalid
+
+-- the place of a truth value in a row, and of its row in a table
+abbrev pub place : Truth → ℕ
+place False = 0
+place True = 1
+place T.Null = 2
+place T.Invalid = 3
 
 -- the entry of a row
-abbrev pub in_row : List Value → Value → Value
+abbrev pub in_row : List Value → Truth → Value
 in_row row b = slice_index_or row (place b) Invalid
+
+-- the entry of a table
+abbrev pub at : List (List Value) → Truth → Truth → Value
+at table a b = in_row (slice_index_or table (place a) []) b
 
 -- the entry of a table at two values
 abbrev pub entry : List (List Value) → Value → Value → Value
-entry table a b = in_row (slice_index_or table (place a) []) b
+entry table a b = at table (truth_of a) (truth_of b)
 
 -- in each table a row for each left side, with an entry for each right side: false, true, null, invalid
 

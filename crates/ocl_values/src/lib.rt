@@ -2,13 +2,20 @@
 #![tactic(auto)]
 
 mod integer;
+
+mod logic;
 mod print;
+mod equality;
+mod shape;
 mod string;
 mod text;
 mod value;
 
-pub use integer::IntOp;
+pub use integer::{int_op, IntOp};
+pub use logic::{and, implies, not, or, xor};
 pub use print::Names;
+pub use equality::{order, same};
+pub use shape::size;
 pub use string::StrOp;
 pub use text::Text;
 pub use value::{EnumNo, Kind, LitNo, ObjNo, Value};
