@@ -1,13 +1,15 @@
 -- The order of values is by rank, and of two values that it does not tell apart, each is the other.
-use Rattle.std.proofs.Common.{◌≡◌, List, [], ◌∷◌, map, ℕ, T, true, false, Less, Equal, Greater, Ordering, refl, sym, ap, ap₂, ◌∙◌, subst, is_eq}
+use Rattle.std.proofs.Common.{◌≡◌, List, [], ◌∷◌, map, ℕ, T, true, false, Less, Equal, Greater, Ordering, ◌↔◌, refl, sym, ap, ap₂, ◌∙◌, subst, is_eq}
+use Rattle.std.specs.Cmp.{IsTotalOrder}
 use Rattle.std.specs.Cmp.Lexicographic.{slice_cmp}
+use Rattle.std.proofs.lemmas.Cmp.{tied_itself}
 use Rattle.std.specs.FinMap.{IsAntisymmetric, nat_cmp-IsAntisymmetric, int_cmp-IsAntisymmetric, slice_cmp-IsAntisymmetric}
 use Rattle.std.specs.Ordering.{ordering_then, nat_cmp, int_cmp, bool_cmp}
 use Rattle.ocl_values.specs.declared.value.Kind.{Kind}
 use Rattle.ocl_values.specs.declared.value.Kind.TheVariants as KV
 use Rattle.ocl_values.specs.contracts.value.KindOrd.TheImpl as KO
 use Rattle.ocl_values.specs.contracts.value.ValueOrd.TheImpl.{the_step}
-use Rattle.ocl_values.specs.contracts.value.ValueOrd.TheImpl.Laws.{local}
+use Rattle.ocl_values.specs.contracts.value.ValueOrd.TheImpl.Laws.{local, total-law}
 use Rattle.ocl_values.specs.Order.{value_cmp, kind_rank, by_rank}
 use Rattle.ocl_values.specs.declared.value.Value.{Value, roll-Value, out-Value, roll-out-Value, out-roll-Value, items_shown-the_row-Value-0}
 use Rattle.ocl_values.specs.declared.value.Value.TheOpen as O
@@ -167,3 +169,11 @@ value_exact = F.ind-Value Same (λ x y is b e.
     let whole = sym (cmp_is (roll-Value x) b) ∙ e in
     let here : layer value_cmp (F.map-Value _ Value (λ v. v.0) y) (out-Value b) ≡ Equal = subst (λ l. layer value_cmp l (out-Value b) ≡ Equal) (out-roll-Value x ∙ sym is) whole in
     ap roll-Value (sym is ∙ layers_same (λ v. v.0) value_cmp (λ v. v.1) y (out-Value b) here) ∙ roll-out-Value b)
+
+-- the order of values is total
+pub value_total : IsTotalOrder value_cmp
+value_total = total-law
+
+-- the order answers equal exactly at one value
+pub equal_exact : (r : Ordering) (u v : Value) → r ≡ value_cmp u v → (r ≡ Equal) ↔ (u ≡ v)
+equal_exact r u v e = (λ h. value_exact u v (sym e ∙ h), λ h. e ∙ ap (value_cmp u) (sym h) ∙ tied_itself value_total u)
