@@ -10,7 +10,7 @@ sizes_row : (n : _) (row : Row_of-Value n) → row_size row ≡ sizes_of (items-
 sizes_row n end_of-Value = refl
 sizes_row n (more_of-Value v rest) = ap (λ s. size_of v + s) (sizes_row _ rest)
 
-abbrev row_of : Value → (n : _) × Row_of-Value n
+abbrev pub row_of : Value → (n : _) × Row_of-Value n
 row_of (Coll' _ _ row) = (_, row)
 row_of _ = (_, end_of-Value)
 

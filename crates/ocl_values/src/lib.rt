@@ -4,7 +4,7 @@
 mod integer;
 
 mod logic;
-mod print;
+mod printing;
 mod equality;
 mod shape;
 mod string;
@@ -13,7 +13,7 @@ mod value;
 
 pub use integer::{int_op, IntOp};
 pub use logic::{and, implies, not, or, xor};
-pub use print::Names;
+pub use printing::{print, Names};
 pub use equality::{order, same};
 pub use shape::size;
 pub use string::StrOp;
