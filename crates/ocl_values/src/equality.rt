@@ -1,0 +1,35 @@
+ghost use Rattle.std.specs.Prelude.{◌≡◌, ◌↔◌, true, false};
+ghost use Rattle.std.specs.declared.cmp.Ordering.TheVariants.{Equal};
+ghost use Rattle.ocl_values.specs.Logic.{is_invalid, same_value};
+ghost use Rattle.ocl_values.specs.Order.{by_rank, value_cmp};
+
+use crate::Value;
+use std::cmp::Ordering;
+
+fn is_invalid(v: &Value) -> bool
+    ensures { result ≡ is_invalid v.now }
+{
+    matches!(v, Value::Invalid)
+}
+
+/// `a = b`. Null equals null and nothing else.
+pub fn same(a: &Value, b: &Value) -> Value
+    ensures { result ≡ same_value a.now b.now }
+{
+    if is_invalid(a) || is_invalid(b) {
+        Value::Invalid
+    } else {
+        Value::Bool(a.cmp(b).is_eq())
+    }
+}
+
+/// How two values are ordered, as `Ord` has it: null, invalid, false, true, integers, Strings by
+/// bytes, enumeration values, objects by number, collections by kind and then element by element, a
+/// proper prefix first.
+pub fn order(a: &Value, b: &Value) -> Ordering
+    ensures derived { result ≡ value_cmp a.now b.now }
+    ensures ranked { result ≡ by_rank value_cmp a.now b.now }
+    ensures exact { (result ≡ Equal) ↔ (a.now ≡ b.now) }
+{
+    a.cmp(b)
+}

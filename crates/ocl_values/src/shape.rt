@@ -1,0 +1,60 @@
+ghost use Rattle.std.specs.Prelude.{◌≡◌, min, ◌^◌, ◌-◌, IfOk};
+ghost use Rattle.ocl_values.specs.Shape.{size_of, sizes_of};
+
+use crate::{Text, Value};
+use std::alloc::{AllocError, Global};
+use use_lists::Items;
+
+/// The size of a value: 1, and for a String its bytes, for a collection the sizes of its elements.
+/// Sizes past 2^64 - 1 count as that.
+#[cycle(size)]
+pub fn size(v: &Value) -> u64
+    ensures { result ≡ min (size_of v.now) (2 ^ 64 - 1) }
+{
+    match v {
+        Value::Str(text) => (text.as_str().len() as u64).saturating_add(1),
+        Value::Coll(_, items) => sizes(items.as_slice()).saturating_add(1),
+        _ => 1,
+    }
+}
+
+#[cycle(size)]
+fn sizes(all: &[Value]) -> u64
+    ensures { result ≡ min (sizes_of all.now) (2 ^ 64 - 1) }
+{
+    let mut sum = 0u64;
+    'add: for v in all {
+        sum = sum.saturating_add(size(v));
+    }
+    sum
+}
+
+impl Value {
+    /// An equal value.
+    #[cycle(copy)]
+    pub fn try_copy(&self, alloc: Global) -> Result<Value, AllocError>
+        ensures { IfOk result (λ v. v ≡ self.now) }
+    {
+        Ok(match self {
+            Value::Null => Value::Null,
+            Value::Invalid => Value::Invalid,
+            Value::Bool(b) => Value::Bool(*b),
+            Value::Int(n) => Value::Int(*n),
+            Value::Str(text) => Value::Str(Text::copy_of(alloc, text.as_str())?),
+            Value::Enum(enumeration, literal) => Value::Enum(*enumeration, *literal),
+            Value::Obj(object) => Value::Obj(*object),
+            Value::Coll(kind, items) => Value::Coll(*kind, copy_all(alloc, items.as_slice())?),
+        })
+    }
+}
+
+#[cycle(copy)]
+fn copy_all(alloc: Global, all: &[Value]) -> Result<Items<Value>, AllocError>
+    ensures { IfOk result (λ items. items ≡ all.now) }
+{
+    let mut list = Vec::new(alloc);
+    'copy: for v in all {
+        list.push(v.try_copy(alloc)?)?;
+    }
+    Ok(Items::from_vec(list))
+}
