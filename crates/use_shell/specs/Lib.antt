@@ -1,0 +1,5 @@
+pub mod Words
+pub mod Models
+pub mod Output
+pub mod Endings
+pub mod Numbers

@@ -1,0 +1,36 @@
+-- Model files.
+use Rattle.std.specs.Prelude.{ℕ, Bool, true, false, ◌&&◌, ◌==◌, nat_lt, if◌then◌else◌, List, [], ◌∷◌, length, Option, Some, None, Ok, Err}
+use Rattle.use_text.specs.declared.token.Token.{Token}
+use Rattle.use_text.specs.declared.token.TokenKind.{TokenKind}
+use Rattle.use_text.specs.declared.token.TokenKind.TheVariants.{End, Name, Model}
+use Rattle.use_text.specs.declared.refusal.Refusal.{Refusal}
+use Rattle.use_text.specs.declared.code.Family.TheVariants.{F, S}
+use Rattle.use_text.specs.Codes.{code_of}
+use Rattle.use_text.specs.Kinds.{number_of}
+use Rattle.use_text.specs.Places.{place_at}
+use Rattle.use_text.specs.Refusals.{refusal_at}
+use Rattle.use_text.specs.Tokens.{Tokens, tokens}
+
+-- the most bytes of a model file
+abbrev pub max_model : ℕ
+max_model = 4194304
+
+abbrev pub is_kind : TokenKind → Token → Bool
+is_kind kind t = t.kind == number_of kind
+
+-- `model`, a name, and the end
+abbrev pub is_empty_model : List Token → Bool
+is_empty_model (m ∷ n ∷ e ∷ []) = is_kind Model m && is_kind Name n && is_kind End e
+is_empty_model _ = false
+
+abbrev pub is_model : Tokens → Bool
+is_model (Ok ts) = is_empty_model ts
+is_model (Err r) = false
+
+-- why a model file is refused, if it is: there is none, it is too long, or its form is not built yet
+abbrev pub model_refusal : Option (List ℕ) → Option Refusal
+model_refusal None = Some (refusal_at (code_of F 1) (place_at 0 0))
+model_refusal (Some text) =
+    if nat_lt max_model (length text) then Some (refusal_at (code_of F 2) (place_at 0 0))
+    else (if is_model (tokens 1 text) then None
+    else Some (refusal_at (code_of S 0) (place_at 1 1)))

@@ -1,0 +1,56 @@
+-- What the program writes, and with which status it ends.
+use Rattle.std.specs.Prelude.{ℕ, nat_lt, if◌then◌else◌, List, [], ◌∷◌, ◌++◌, length, take, Option, Some, None}
+use Rattle.std.specs.FinMap.{get}
+use Rattle.use_io.specs.Shelves.{Files}
+use Rattle.use_text.specs.declared.cut.Cut.{Cut}
+use Rattle.use_text.specs.declared.refusal.Refusal.{Refusal}
+use Rattle.use_text.specs.Cuts.{cuts, ended}
+use Rattle.use_session.specs.Machine.{Machine, start, step, refusal_line}
+use Rattle.use_shell.specs.declared.status.Status.{Status}
+use Rattle.use_shell.specs.declared.status.Status.TheVariants.{Done, Usage, ModelRefused, TooLong}
+use Rattle.use_shell.specs.Words.{usage_line, model_word}
+use Rattle.use_shell.specs.Models.{model_refusal}
+
+-- the most bytes of an input
+abbrev pub max_input : ℕ
+max_input = 16777216
+
+-- what commands lead to: the machine behind them, and the bytes that they write
+pub record Played : Type 0 where
+  pub machine : Machine
+  pub bytes : List ℕ
+
+-- these bytes, and then those that are played
+abbrev pub after : List ℕ → Played → Played
+after bytes p = record { machine = p.machine; bytes = bytes ++ p.bytes }
+
+-- the commands, one step of the machine after another
+abbrev pub play : Machine → List Cut → Played
+play m [] = record { machine = m; bytes = [] }
+play m (cut ∷ more) = after (step m cut).bytes (play (step m cut).machine more)
+
+-- the bytes that are written, and the status
+pub record Ending : Type 0 where
+  pub bytes : List ℕ
+  pub status : Status
+
+abbrev pub ending : List ℕ → Status → Ending
+ending bytes status = record { bytes = bytes; status = status }
+
+-- of an input that is too long, the commands that ended within the limit are answered
+abbrev pub of_input : List ℕ → Ending
+of_input input =
+    if nat_lt max_input (length input) then ending (play start (ended (take max_input input))).bytes TooLong
+    else ending (play start (cuts input)).bytes Done
+
+abbrev pub of_model : Option Refusal → List ℕ → Ending
+of_model (Some refusal) input = ending (refusal_line refusal) ModelRefused
+of_model None input = of_input input
+
+abbrev pub of_word : Option (List ℕ) → Files → List ℕ → Ending
+of_word None files input = ending usage_line Usage
+of_word (Some name) files input = of_model (model_refusal (get files name)) input
+
+-- the output for these words, files and input
+abbrev pub output : List (List ℕ) → Files → List ℕ → Ending
+output words files input = of_word (model_word words) files input

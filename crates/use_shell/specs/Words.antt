@@ -1,0 +1,16 @@
+-- The words of the command line.
+use Rattle.std.specs.Prelude.{ℕ, ◌==◌, Bool, false, if◌then◌else◌, List, [], ◌∷◌, Option, Some, None, codes}
+
+abbrev pub usage_line : List ℕ
+usage_line = codes "usage: usesh [--echo] [--strict] MODEL | usesh --sample N\n"
+
+abbrev pub begins_with_dash : List ℕ → Bool
+begins_with_dash [] = false
+begins_with_dash (b ∷ bytes) = b == 45
+
+-- the model's name, where the words are the program's name and one that begins with no dash
+abbrev pub model_word : List (List ℕ) → Option (List ℕ)
+model_word [] = None
+model_word (program ∷ []) = None
+model_word (program ∷ name ∷ []) = if begins_with_dash name then None else Some name
+model_word (program ∷ name ∷ w ∷ ws) = None
