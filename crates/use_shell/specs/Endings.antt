@@ -1,14 +1,9 @@
 -- How a run ends, where source, sink and shelf tell their bytes, and what each answer's cause is.
-use Rattle.std.specs.Prelude.{ℕ, ◌≡◌, ◌<◌, ◌≤◌, ◌⊎◌, List, [], ◌++◌, length, Option, Some, None, IfSome, IsSome, ⊤, is_some, true, false, Bool}
-use Rattle.std.specs.FinMap.{get}
+use Rattle.std.specs.Prelude.{ℕ, ◌≡◌, ◌<◌, ◌⊎◌, List, ◌++◌, length, Option}
 use Rattle.std.specs.Io.KnownBytes.{Appends, Consumes, IsAtEnd}
-use Rattle.use_io.specs.Shelves.{Files}
-use Rattle.use_io.specs.Causes.{Rose}
 use Rattle.use_shell.specs.declared.status.Status.{Status}
 use Rattle.use_shell.specs.declared.status.Status.TheVariants.{Done, Usage, ModelRefused, ReadFault, WriteFault, Memory, TooLong}
-use Rattle.use_shell.specs.Words.{model_word}
-use Rattle.use_shell.specs.Models.{model_refusal}
-use Rattle.use_shell.specs.Output.{Ending, max_input, output}
+use Rattle.use_shell.specs.Output.{Ending, max_input}
 
 -- a front of the bytes was written
 pub record AppendsFront (old new : Option (List ℕ)) (bytes : List ℕ) : Type 0 where
@@ -17,9 +12,13 @@ pub record AppendsFront (old new : Option (List ℕ)) (bytes : List ℕ) : Type 
   pub whole : bytes ≡ front ++ rest
   pub written : Appends old new front
 
+-- All that was left was taken, or the first bytes of it, more than an input may have.
+abbrev pub Gathers : Option (List ℕ) → Option (List ℕ) → List ℕ → Type 0
+Gathers old new taken = Consumes old new taken × (IsAtEnd new ⊎ (max_input < length taken))
+
 -- the bytes were written whole, and the status is this one
 pub record EndsWith (e : Ending) (status : Status) (old new : Option (List ℕ)) : Type 0 where
-  pub status : e.status ≡ status
+  pub same : e.status ≡ status
   pub written : Appends old new e.bytes
 
 -- a run ends with its whole output and the output's status, or after a front of it

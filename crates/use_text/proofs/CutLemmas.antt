@@ -4,7 +4,7 @@ use Rattle.std.specs.declared.alloc.AllocError.{AllocError}
 use Rattle.std.proofs.lemmas.List.Elements.{All-push}
 use Rattle.use_text.specs.declared.cut.Cut.{Cut}
 use Rattle.use_text.specs.Lines.{parts, ended_parts, last_part, ended_lines, open_line}
-use Rattle.use_text.specs.Cuts.{Cutting, IsFed, IsFinished, IsCommand, line_cut, lines_cuts, cuts, ended}
+use Rattle.use_text.specs.Cuts.{Cutting, Extends, StaysEnded, IsFed, IsFinished, IsCommand, line_cut, lines_cuts, cuts, ended}
 use Rattle.use_text.proofs.LineLemmas.{glue, glue_none, parts_some, ended_cons, last_cons, ended_go_on, open_go_on, lines_some, lines_none}
 
 pub cuts_append : (n : ℕ) (xs ys : List (List ℕ)) → lines_cuts n (xs ++ ys) ≡ lines_cuts n xs ++ lines_cuts (n + length xs) ys
@@ -70,6 +70,22 @@ finished c more is bytes stands = last (open_line bytes) refl ∙ ap (λ l. ende
     last : (rest : List ℕ) → open_line bytes ≡ rest → cuts bytes ≡ ended bytes ++ line_cut (c.count + 1) rest
     last [] at = ap (lines_cuts 1) (lines_none bytes at) ∙ sym (append-nil (ended bytes))
     last (b ∷ rest) at = ap (lines_cuts 1) (lines_some bytes b rest at) ∙ cuts_append 1 (ended_lines bytes) ((b ∷ rest) ∷ []) ∙ ap (λ l. ended bytes ++ l) (append-nil (line_cut (1 + length (ended_lines bytes)) (b ∷ rest)) ∙ ap (λ n. line_cut n (b ∷ rest)) (sym first))
+
+ended_first : (bytes : List ℕ) → Extends (ended bytes) (cuts bytes)
+ended_first bytes = last (open_line bytes) refl
+  where
+    last : (rest : List ℕ) → open_line bytes ≡ rest → Extends (ended bytes) (cuts bytes)
+    last [] at = ([], ap (lines_cuts 1) (lines_none bytes at) ∙ sym (append-nil (ended bytes)))
+    last (b ∷ rest) at = (lines_cuts (1 + length (ended_lines bytes)) ((b ∷ rest) ∷ []), ap (lines_cuts 1) (lines_some bytes b rest at) ∙ cuts_append 1 (ended_lines bytes) ((b ∷ rest) ∷ []))
+
+extends_on : (xs ys zs : List Cut) → Extends xs ys → Extends ys zs → Extends xs zs
+extends_on xs ys zs a b = (a.0 ++ b.0, b.1 ∙ ap (λ l. l ++ b.0) a.1 ∙ append_assoc xs a.0 b.0)
+
+pub stays_ended : StaysEnded
+stays_ended bytes more =
+    let lines = ended_parts (glue (open_line bytes) (parts more)) in
+    let later : Extends (ended bytes) (ended (bytes ++ more)) = (lines_cuts (1 + length (ended_lines bytes)) lines, ap (lines_cuts 1) (ended_go_on bytes more) ∙ cuts_append 1 (ended_lines bytes) lines) in
+    (later, extends_on (ended bytes) (ended (bytes ++ more)) (cuts (bytes ++ more)) later (ended_first (bytes ++ more)))
 
 command_later : (m n : ℕ) (c : Cut) → m ≤ n → IsCommand m c → IsCommand n c
 command_later m n c le is = record { text = is.text; line = omega (arith, is.line) }

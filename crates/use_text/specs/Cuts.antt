@@ -59,6 +59,14 @@ IsFed old piece new = (bytes : List ℕ) → StandsFor old bytes → FeedsOn old
 abbrev pub IsFinished : Cutting → List Cut → Type 0
 IsFinished old more = (bytes : List ℕ) → StandsFor old bytes → cuts bytes ≡ ended bytes ++ more
 
+-- these commands, and then more
+abbrev pub Extends : List Cut → List Cut → Type 0
+Extends front all = (rest : List Cut) × (all ≡ front ++ rest)
+
+-- A command that has ended stays as it is, whatever bytes follow.
+abbrev pub StaysEnded : Type 0
+StaysEnded = (bytes more : List ℕ) → Extends (ended bytes) (ended (bytes ++ more)) × Extends (ended bytes) (cuts (bytes ++ more))
+
 -- the text is not too long, and the line is one of so many
 pub record IsCommand (lines : ℕ) (c : Cut) : Type 0 where
   pub text : length c.text ≤ max_command

@@ -1,6 +1,6 @@
 ghost use Rattle.std.specs.Prelude.{◌≡◌, [], ◌∷◌, ◌++◌, ◌+◌, ◌<◌, ◌≤◌, IfSome, IfNone, OnOk, OnErr, length, drop, slice_range, option_to_list};
 ghost use Rattle.use_text.specs.Lines.{parts, is_blank, is_white_line};
-ghost use Rattle.use_text.specs.Cuts.{StandsFor, IsFed, IsFinished, IsCommand, dark_cut, line_cut};
+ghost use Rattle.use_text.specs.Cuts.{StandsFor, StaysEnded, IsFed, IsFinished, IsCommand, dark_cut, line_cut};
 
 use crate::{Bytes, Cut, Fate};
 use std::alloc::{AllocError, Global};
@@ -37,6 +37,7 @@ impl Cutter {
     pub fn new(alloc: Global) -> Cutter
         ensures stands { StandsFor result [] }
         ensures waiting { result.waiting ≡ [] }
+        ensures stays { StaysEnded }
     {
         Cutter {
             alloc,

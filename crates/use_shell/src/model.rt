@@ -1,0 +1,92 @@
+ghost use Rattle.std.specs.Prelude.{◌≡◌, ◌≤◌, ◌==◌, IfOk, IfSome, IsErrOf, length};
+ghost use Rattle.std.specs.FinMap.{get};
+ghost use Rattle.use_io.specs.Causes.{Rose};
+ghost use Rattle.use_text.specs.Codes.{code_of};
+ghost use Rattle.use_text.specs.Places.{place_at};
+ghost use Rattle.use_text.specs.Refusals.{refusal_at};
+ghost use Rattle.use_text.specs.Tokens.{tokens};
+ghost use Rattle.use_text.specs.declared.code.Family.TheVariants.{S};
+ghost use Rattle.use_shell.specs.Models.{is_kind, is_empty_model, is_model, model_refusal};
+
+use crate::stop::Stop;
+use std::alloc::Global;
+use use_io::{Shelf, ShelfFault};
+use use_text::{Code, LexFault, Place, Refusal, Token, TokenKind, lex};
+
+/// The most bytes of a model file.
+const MAX_MODEL: u32 = 4_194_304;
+
+fn is_kind(kind: TokenKind, token: Token) -> bool
+    ensures { result ≡ is_kind kind token }
+{
+    token.kind == kind.number()
+}
+
+/// Whether the tokens are `model`, a name, and the end.
+fn is_empty_model(tokens: &[Token]) -> bool
+    ensures { result ≡ is_empty_model tokens.now }
+{
+    tokens.len() == 3
+        && is_kind(TokenKind::Model, tokens[0])
+        && is_kind(TokenKind::Name, tokens[1])
+        && is_kind(TokenKind::End, tokens[2])
+}
+
+/// Whether the text is a model of the form that is built.
+fn is_model(alloc: Global, text: &[u8]) -> Result<bool, Stop>
+    requires { length text.now ≤ 4194304 }
+    ensures model { IfOk result (λ is. is ≡ is_model (tokens 1 text.now)) }
+    ensures no_read { ¬ IsErrOf result Stop.Read }
+    ensures no_write { ¬ IsErrOf result Stop.Write }
+{
+    match lex(alloc, text, 1) {
+        Ok(tokens) => Ok(is_empty_model(tokens.as_slice())),
+        Err(LexFault::Bad(_)) => Ok(false),
+        Err(LexFault::Memory) => Err(Stop::Memory),
+    }
+}
+
+/// A refusal of the whole file, which could not be read.
+fn of_file(code: Code) -> Refusal
+    ensures { result ≡ refusal_at code (place_at 0 0) }
+{
+    Refusal {
+        code,
+        place: Place { line: 0, col: 0 },
+    }
+}
+
+fn unbuilt() -> Refusal
+    ensures { result ≡ refusal_at (code_of S 0) (place_at 1 1) }
+{
+    Refusal {
+        code: Code::S0,
+        place: Place { line: 1, col: 1 },
+    }
+}
+
+/// Why the model of this name is refused, if it is.
+pub fn model_refusal<F: Shelf>(
+    alloc: Global,
+    shelf: &mut F,
+    name: &str,
+) -> Result<Option<Refusal>, Stop>
+    ensures refusal { IfOk result (λ refusal. IfSome (F.files shelf.old) (λ files. refusal ≡ model_refusal (get files name.now))) }
+    ensures later { F.faults shelf.old ≤ F.faults shelf.new }
+    ensures cause { IsErrOf result Stop.Read → Rose (F.faults shelf.old) (F.faults shelf.new) }
+    ensures no_write { ¬ IsErrOf result Stop.Write }
+{
+    match shelf.fetch(alloc, name, MAX_MODEL) {
+        Ok(text) => {
+            if is_model(alloc, &text)? {
+                Ok(None)
+            } else {
+                Ok(Some(unbuilt()))
+            }
+        }
+        Err(ShelfFault::Missing) => Ok(Some(of_file(Code::F1))),
+        Err(ShelfFault::TooLong) => Ok(Some(of_file(Code::F2))),
+        Err(ShelfFault::Failed) => Err(Stop::Read),
+        Err(ShelfFault::Memory) => Err(Stop::Memory),
+    }
+}
