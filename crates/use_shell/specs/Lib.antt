@@ -3,3 +3,4 @@ pub mod Models
 pub mod Output
 pub mod Endings
 pub mod Numbers
+pub mod Plays

@@ -37,11 +37,14 @@ pub record Ending : Type 0 where
 abbrev pub ending : List ℕ → Status → Ending
 ending bytes status = record { bytes = bytes; status = status }
 
--- of an input that is too long, the commands that ended within the limit are answered
-abbrev pub of_input : List ℕ → Ending
-of_input input =
-    if nat_lt max_input (length input) then ending (play start (ended (take max_input input))).bytes TooLong
+-- of an input that is longer than a limit, the commands that ended within it are answered
+abbrev pub of_input_within : ℕ → List ℕ → Ending
+of_input_within limit input =
+    if nat_lt limit (length input) then ending (play start (ended (take limit input))).bytes TooLong
     else ending (play start (cuts input)).bytes Done
+
+abbrev pub of_input : List ℕ → Ending
+of_input input = of_input_within max_input input
 
 abbrev pub of_model : Option Refusal → List ℕ → Ending
 of_model (Some refusal) input = ending (refusal_line refusal) ModelRefused

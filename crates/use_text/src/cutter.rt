@@ -50,7 +50,8 @@ impl Cutter {
     /// Takes the next bytes of the stream.
     pub fn feed(&mut self, piece: &[u8]) -> Result<(), AllocError>
         requires { self.old.count + length piece.now ≤ 4000000000 }
-        ensures { OnOk result (IsFed self.old piece.now self.new) }
+        ensures fed { OnOk result (IsFed self.old piece.now self.new) }
+        ensures count { OnOk result (self.new.count ≤ self.old.count + length piece.now) }
     {
         let mut at = 0usize;
         'lines: while let Some(end) = line_end(piece, at) {

@@ -1,0 +1,16 @@
+use Rattle.std.proofs.Common.{◌≡◌, ◌++◌, length, false}
+use Rattle.use_shell.specs.Output.{play}
+use Rattle.use_shell.proofs.play.answer_waiting.Given as goal
+
+abbrev pub invariant-cuts : goal.invariant-cuts
+invariant-cuts g l = record {
+  over : l.session.over ≡ false;
+  rest : l.cutter.rest ≡ l.fn.cutter.rest;
+  count : l.cutter.count ≡ l.fn.cutter.count;
+  bytes : l.out.items ++ (play l.session.machine l.cutter.waiting).bytes ≡ l.fn.out.items ++ (play l.fn.session.machine l.fn.cutter.waiting).bytes;
+  machine : (play l.session.machine l.cutter.waiting).machine ≡ (play l.fn.session.machine l.fn.cutter.waiting).machine;
+  steps : l.steps ≡ l.fn.steps;
+}
+
+abbrev pub decreases-cuts : goal.decreases-cuts
+decreases-cuts g l = length l.cutter.waiting
