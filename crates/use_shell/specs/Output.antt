@@ -1,5 +1,5 @@
 -- What the program writes, and with which status it ends.
-use Rattle.std.specs.Prelude.{ℕ, nat_lt, if◌then◌else◌, List, [], ◌∷◌, ◌++◌, length, take, Option, Some, None}
+use Rattle.std.specs.Prelude.{ℕ, nat_lt, if◌then◌else◌, List, [], ◌∷◌, ◌++◌, length, take, Option, Some, None, option_and_then}
 use Rattle.std.specs.FinMap.{get}
 use Rattle.use_io.specs.Shelves.{Files}
 use Rattle.use_text.specs.declared.cut.Cut.{Cut}
@@ -45,6 +45,10 @@ of_input_within limit input =
 
 abbrev pub of_input : List ℕ → Ending
 of_input input = of_input_within max_input input
+
+-- why the model that the words name is refused, if they name one and it is
+abbrev pub refusal_for : List (List ℕ) → Files → Option Refusal
+refusal_for words files = option_and_then (λ name. model_refusal (get files name)) (model_word words)
 
 abbrev pub of_model : Option Refusal → List ℕ → Ending
 of_model (Some refusal) input = ending (refusal_line refusal) ModelRefused

@@ -1,5 +1,6 @@
 -- The words of the command line.
-use Rattle.std.specs.Prelude.{ℕ, ◌==◌, Bool, false, if◌then◌else◌, List, [], ◌∷◌, Option, Some, None, codes}
+use Rattle.std.specs.Prelude.{ℕ, ◌==◌, Bool, false, if◌then◌else◌, List, [], ◌∷◌, Option, Some, None, codes, String, string_bytes, map}
+use Rattle.std.specs.declared.alloc.Global.{Global}
 
 abbrev pub usage_line : List ℕ
 usage_line = codes "usage: usesh [--echo] [--strict] MODEL | usesh --sample N\n"
@@ -14,3 +15,7 @@ model_word [] = None
 model_word (program ∷ []) = None
 model_word (program ∷ name ∷ []) = if begins_with_dash name then None else Some name
 model_word (program ∷ name ∷ w ∷ ws) = None
+
+-- the words, each as its bytes
+abbrev pub words_of : List (String Global) → List (List ℕ)
+words_of words = map (λ s. string_bytes s) words
