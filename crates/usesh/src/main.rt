@@ -1,0 +1,58 @@
+//! `usesh MODEL`: reads a model and a stream of commands, and writes their answers.
+#![tactic(auto)]
+
+ghost use Rattle.std.specs.Prelude.{◌≡◌, ◌<◌};
+
+use std::alloc::Global;
+use std::env;
+use std::io::ErrorKind;
+use std::marker::Brand;
+use std::process::ExitCode;
+use std::sync::ledger::{Blank, Ledger};
+use use_io::{DiskShelf, Shelf, Sink, Source, StdIn, StdOut};
+use use_shell::{Status, run};
+use use_steps::Steps;
+
+/// Runs the program with a counter of steps that starts at 0, and is not looked at.
+fn run_uncounted<F: Shelf, S: Source, K: Sink, L: Ledger>(
+    alloc: Global,
+    words: &[String],
+    shelf: &mut F,
+    source: &mut S,
+    sink: &mut K,
+    blank: Blank,
+) -> Status
+    requires name { blank.name ≡ L.name }
+    requires parts { blank.parts ≡ L.parts }
+    requires some { 0 < blank.parts }
+{
+    let mut steps = Steps::<L>::new(blank);
+    run(alloc, words, shelf, source, sink, &mut steps)
+}
+
+fn main(rt: HostRuntime) -> ExitCode {
+    let alloc = rt.alloc();
+    // A word that is not UTF-8 makes the words a faulty command line.
+    let words = match env::args(&rt) {
+        Ok(args) => match args.collect::<Vec<String>>(alloc) {
+            Ok(words) => words,
+            Err(_) => return ExitCode::from(Status::Memory.number()),
+        },
+        Err(e) if e.kind() == ErrorKind::OutOfMemory => {
+            return ExitCode::from(Status::Memory.number());
+        }
+        Err(_) => Vec::new(alloc),
+    };
+    let mut shelf = DiskShelf::new(&rt);
+    let mut source = StdIn::new(rt.reader());
+    let mut sink = StdOut::new(std::io::writer(&rt));
+    let status = run_uncounted::<_, _, _, Brand>(
+        alloc,
+        &words,
+        &mut shelf,
+        &mut source,
+        &mut sink,
+        Blank::new(1),
+    );
+    ExitCode::from(status.number())
+}
