@@ -3,8 +3,8 @@ ghost use Rattle.use_text.specs.Lines.{is_opening_line};
 ghost use Rattle.use_text.specs.Cuts.{block_of, joined, sized_cut, block_cut, line_cuts, block_after, IsCommand};
 ghost use Rattle.use_text.specs.Pending.{text_before, pending_line, pending_block, first_pending, last_cuts};
 
-use crate::line::{is_closing_line, is_idle_line, is_opening_line};
 use crate::block::OpenBlock;
+use crate::line::{is_closing_line, is_idle_line, is_opening_line};
 use crate::{Bytes, Cut, Fate};
 use std::alloc::{AllocError, Global};
 

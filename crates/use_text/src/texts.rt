@@ -1,9 +1,6 @@
 // The texts of refusals, each with its number in its family.
 
-pub const K_TEXTS: [(u8, &str); 2] = [
-    (1, "command is too long"),
-    (2, "block is not closed"),
-];
+pub const K_TEXTS: [(u8, &str); 2] = [(1, "command is too long"), (2, "block is not closed")];
 
 pub const L_TEXTS: [(u8, &str); 5] = [
     (1, "text is not UTF-8"),
@@ -96,10 +93,7 @@ pub const C_TEXTS: [(u8, &str); 4] = [
     (4, "too many open operations"),
 ];
 
-pub const U_TEXTS: [(u8, &str); 2] = [
-    (1, "nothing to undo"),
-    (2, "nothing to redo"),
-];
+pub const U_TEXTS: [(u8, &str); 2] = [(1, "nothing to undo"), (2, "nothing to redo")];
 
 pub const F_TEXTS: [(u8, &str); 3] = [
     (1, "no such file"),
@@ -107,6 +101,4 @@ pub const F_TEXTS: [(u8, &str); 3] = [
     (3, "files are open 8 deep"),
 ];
 
-pub const V_TEXTS: [(u8, &str); 1] = [
-    (1, "no such view"),
-];
+pub const V_TEXTS: [(u8, &str); 1] = [(1, "no such view")];
