@@ -1,5 +1,5 @@
 -- The bytes of a block, whose lines are joined by line feeds.
-use Rattle.std.proofs.Common.{◌≡◌, ℕ, zero, suc, ◌+◌, ◌-◌, ◌<◌, ◌≤◌, List, [], ◌∷◌, ◌++◌, length, take, drop, slice_index, false, Option, Some, None, arith, refl, sym, ap, ◌∙◌, add-one, length-append, drop-cons}
+use Rattle.std.proofs.Common.{◌≡◌, ℕ, zero, suc, ◌-◌, ◌<◌, ◌≤◌, List, [], ◌∷◌, ◌++◌, length, drop, slice_index, false, Option, Some, arith, refl, sym, ap, ◌∙◌, length-append, drop-cons}
 use Rattle.std.proofs.lemmas.List.{take-append-drop, take-append-le}
 use Rattle.std.proofs.Math.Seq.{take-length}
 use Rattle.use_text.specs.declared.cut.Fate.TheVariants.{Unfinished}

@@ -1,5 +1,5 @@
 -- A piece is not empty, and stands within its bytes.
-use Rattle.std.proofs.Common.{◌≡◌, ◌≢◌, ℕ, zero, suc, ◌+◌, ◌<◌, ◌≤◌, ◌==◌, Bool, true, false, not, cond, nat_le, nat_lt, nat_eq, List, [], ◌∷◌, length, take, drop, codes, take_while, is_some, arith, refl, sym, ap, rules, ◌||◌, ◌&&◌, Option, Some, None, ℤ, IfSome, length-drop}
+use Rattle.std.proofs.Common.{◌≡◌, ℕ, ◌+◌, ◌<◌, ◌≤◌, ◌==◌, Bool, true, false, not, cond, nat_le, nat_lt, nat_eq, List, [], ◌∷◌, length, take, drop, codes, take_while, is_some, arith, refl, ◌||◌, ◌&&◌, Option, Some, None, IfSome, length-drop}
 use borrow.Author.Tests.{ltb-true}
 use Rattle.std.specs.Option.{option_map_or}
 use Rattle.std.specs.List.{list_all}

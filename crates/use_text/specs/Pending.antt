@@ -1,5 +1,5 @@
 -- What has not ended yet, as a cutter keeps it.
-use Rattle.std.specs.Prelude.{ℕ, zero, suc, ◌+◌, List, [], ◌∷◌, ◌++◌, take, drop, Option, Some, None}
+use Rattle.std.specs.Prelude.{ℕ, zero, suc, List, [], ◌∷◌, ◌++◌, take, drop, Option, Some, None}
 use Rattle.use_text.specs.declared.cut.Cut.{Cut}
 use Rattle.use_text.specs.declared.pending.Pending.{Pending}
 use Rattle.use_text.specs.declared.pending.Pending.TheVariants.{Line, Block as InBlock}

@@ -2,7 +2,7 @@ ghost use Rattle.std.specs.Prelude.{◌≡◌, ◌+◌, ◌≤◌, ◌<◌, leng
 
 use super::*;
 use crate::TokenKind::*;
-use std::alloc::Global;
+use std::alloc::{AllocError, Global};
 use std::test::Fail;
 
 // The tokens of a text as `KIND START..END LINE:COL`, or its refusal as `CODE at LINE:COL`.
@@ -226,19 +226,66 @@ fn every_split_gives_the_same_commands(rt: HostRuntime) -> Result<(), Fail> {
     let alloc = rt.alloc();
     for (stream, want) in [
         ("", ""),
-        (" \t\r\n-- a\n  // b\n/ c\n? 1", "4 Whole / c;5 Whole ? 1;"),
+        (
+            " \t\r\n-- a\n  // b\n/ c\r\n? 1",
+            "4 Whole / c\r;5 Whole ? 1;",
+        ),
         (
             "\\\n.\n \\ \na\n\n-- b\n..\n . \n\\ x\n.\n",
             "2 Whole ;4 Whole a\n\n-- b\n..;9 Whole \\ x;10 Whole .;",
         ),
-        ("a\n\\", "a"),
+        ("a\n\\", "1 Whole a;3 Unfinished ;"),
+        ("\\\nb\n", "2 Unfinished b;"),
+        ("\\\nb\n c", "2 Unfinished b\n c;"),
+        ("\\\nb\n .", "2 Whole b;"),
     ] {
-        let mut whole = cuts_shown(alloc, stream.as_bytes(), b"")?;
-        if stream == "a\n\\" {
-            assert_eq!(rt; whole.as_str(), "1 Whole a;3 Unfinished ;");
-        } else {
-            assert_eq!(rt; whole.as_str(), want);
+        let stream = stream.as_bytes();
+        for at in 0..stream.len() + 1 {
+            let shown = cuts_shown(alloc, &stream[..at], &stream[at..])?;
+            assert_eq!(rt; shown.as_str(), want, "split at {at}");
         }
     }
     Ok(())
+}
+
+#[test]
+fn commands_have_at_most_65536_bytes(rt: HostRuntime) -> Result<(), Fail> {
+    let alloc = rt.alloc();
+    for (before, length, behind, fate) in [
+        ("", 65535, "", Fate::Whole),
+        ("", 65536, "\n", Fate::Whole),
+        ("", 65537, "\n", Fate::TooLong),
+        ("\\\n", 65536, "\n.\n", Fate::Whole),
+        ("\\\n\n", 65536, "\n.\n", Fate::TooLong),
+        ("\\\n", 65536, "\n", Fate::Unfinished),
+        ("\\\n", 65537, "\n", Fate::TooLong),
+    ] {
+        let line = vec![in alloc; b'?'; length]?;
+        let cut = only_cut(alloc, before.as_bytes(), &line, behind.as_bytes())?;
+        let kept = if fate == Fate::TooLong { 0 } else { length };
+        assert!(rt;
+            cut.is_some_and(|c| c.fate == fate && c.text.len() == kept),
+            "at {length}"
+        );
+    }
+    Ok(())
+}
+
+// The first command of a stream that comes in three pieces.
+fn only_cut(
+    alloc: Global,
+    first: &[u8],
+    second: &[u8],
+    third: &[u8],
+) -> Result<Option<Cut>, AllocError>
+    requires { length first.now + length second.now + length third.now ≤ 4000000000 }
+{
+    let mut cutter = Cutter::new(alloc);
+    cutter.feed(first)?;
+    cutter.feed(second)?;
+    cutter.feed(third)?;
+    match cutter.next() {
+        Some(cut) => Ok(Some(cut)),
+        None => Ok(cutter.finish()),
+    }
 }

@@ -1,5 +1,4 @@
-use Rattle.std.proofs.Common.{rules, arith, ◌≡◌, ◌<◌, ◌∙◌, ◌∷◌, [], drop, length, sym, ap, length-drop, List, ℕ}
-use Rattle.std.proofs.lemmas.Grind.{common_steps}
+use Rattle.std.proofs.Common.{rules, arith, ◌<◌, ◌∙◌, ◌∷◌, [], drop, length, sym, ap, length-drop, List, ℕ}
 use Rattle.use_text.specs.Cuts.{sized_cut}
 use Rattle.use_text.specs.Pending.{text_before}
 use Rattle.use_text.specs.declared.cut.Fate.TheVariants.{Unfinished}

@@ -1,4 +1,4 @@
-use Rattle.std.proofs.Common.{◌∙◌, ap, ◌++◌, rules, ◌≡◌, slice_range, drop, List, ℕ}
+use Rattle.std.proofs.Common.{◌∙◌, ap, ◌++◌, ◌≡◌, slice_range, drop, List, ℕ}
 use Rattle.std.proofs.lemmas.List.{take_rest}
 use Rattle.use_text.proofs.CutLemmas.{GoesOnBy, EndsLine, fed_line, fed_all, ends_line}
 use Rattle.use_text.proofs.cutter.Cutter.feed.Goals as goal
