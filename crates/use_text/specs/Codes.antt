@@ -1,5 +1,6 @@
 -- The codes of refusals and their texts.
 use Rattle.std.specs.Prelude.{ℕ, ◌==◌, if◌then◌else◌, List, [], ◌∷◌, ◌++◌, codes}
+use Rattle.use_text.specs.declared.texts.TheConstants.{K_TEXTS, L_TEXTS, S_TEXTS, M_TEXTS, N_TEXTS, T_TEXTS, X_TEXTS, B_TEXTS, C_TEXTS, U_TEXTS, F_TEXTS, V_TEXTS}
 use Rattle.std.specs.Fmt.{decimal}
 use Rattle.use_text.specs.declared.code.Code.{Code}
 use Rattle.use_text.specs.declared.code.Family.{Family}
@@ -26,26 +27,26 @@ code_of family number = record { family = family; number = number }
 abbrev pub code_text : Code → List ℕ
 code_text c = letter_of c.family ++ decimal c.number
 
--- the texts of a family, each with its number
-abbrev pub texts_of : Family → List (ℕ × List ℕ)
-texts_of K = []
-texts_of L = (2, codes "no token begins here") ∷ (3, codes "number past the range") ∷ (5, codes "name is too long") ∷ []
-texts_of S = (0, codes "form is not built yet") ∷ []
-texts_of M = []
-texts_of N = []
-texts_of T = []
-texts_of X = []
-texts_of B = []
-texts_of C = []
-texts_of U = []
-texts_of F = (1, codes "no such file") ∷ (2, codes "file is too long") ∷ []
-texts_of V = []
+-- the text of a number among rows, or none
+abbrev pub text_among : {A : Type 0} → List (ℕ × A) → (A → List ℕ) → ℕ → List ℕ
+text_among [] text n = []
+text_among (row ∷ rows) text n = if row.0 == n then text row.1 else text_among rows text n
 
--- the text of a number, or none
-abbrev pub text_at : ℕ → List (ℕ × List ℕ) → List ℕ
-text_at n [] = []
-text_at n (row ∷ rows) = if n == row.0 then row.1 else text_at n rows
+-- the text of a number of a family
+abbrev pub text_in : Family → ℕ → List ℕ
+text_in K n = text_among K_TEXTS (λ t. t.now) n
+text_in L n = text_among L_TEXTS (λ t. t.now) n
+text_in S n = text_among S_TEXTS (λ t. t.now) n
+text_in M n = text_among M_TEXTS (λ t. t.now) n
+text_in N n = text_among N_TEXTS (λ t. t.now) n
+text_in T n = text_among T_TEXTS (λ t. t.now) n
+text_in X n = text_among X_TEXTS (λ t. t.now) n
+text_in B n = text_among B_TEXTS (λ t. t.now) n
+text_in C n = text_among C_TEXTS (λ t. t.now) n
+text_in U n = text_among U_TEXTS (λ t. t.now) n
+text_in F n = text_among F_TEXTS (λ t. t.now) n
+text_in V n = text_among V_TEXTS (λ t. t.now) n
 
 -- the text of a code, which is empty where there is no such code
-abbrev pub text_of : Code → List ℕ
-text_of c = text_at c.number (texts_of c.family)
+unfoldable pub text_of : Code → List ℕ
+text_of c = text_in c.family c.number

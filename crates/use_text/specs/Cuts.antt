@@ -1,9 +1,10 @@
 -- The commands of a stream.
-use Rattle.std.specs.Prelude.{ℕ, ◌+◌, ◌≡◌, ◌≤◌, nat_le, if◌then◌else◌, List, [], ◌∷◌, ◌++◌, length}
+use Rattle.std.specs.Prelude.{ℕ, ◌+◌, ◌≡◌, ◌≤◌, nat_le, ◌||◌, if◌then◌else◌, List, [], ◌∷◌, ◌++◌, length, Option, Some, None}
+use Rattle.std.specs.Option.{unwrap_or}
 use Rattle.use_text.specs.declared.cut.Cut.{Cut}
 use Rattle.use_text.specs.declared.cut.Fate.{Fate}
-use Rattle.use_text.specs.declared.cut.Fate.TheVariants.{Whole, TooLong}
-use Rattle.use_text.specs.Lines.{lines, ended_lines, open_line, is_white_line}
+use Rattle.use_text.specs.declared.cut.Fate.TheVariants.{Whole, TooLong, Unfinished}
+use Rattle.use_text.specs.Lines.{lines, ended_lines, open_line, is_idle_line, is_opening_line, is_closing_line}
 
 abbrev pub cut_of : List ℕ → ℕ → Fate → Cut
 cut_of text line fate = record { text = text; first_line = line; fate = fate }
@@ -12,37 +13,72 @@ cut_of text line fate = record { text = text; first_line = line; fate = fate }
 abbrev pub max_command : ℕ
 max_command = 65536
 
--- the command of a line that is not white
-abbrev pub dark_cut : ℕ → List ℕ → Cut
-dark_cut n line = if nat_le (length line) max_command then cut_of line n Whole else cut_of [] n TooLong
+-- a command of this text, which is too long or else has this fate
+abbrev pub sized_cut : List ℕ → ℕ → Fate → Cut
+sized_cut text line fate = if nat_le (length text) max_command then cut_of text line fate else cut_of [] line TooLong
 
--- the command of a line, if it gives one
-abbrev pub line_cut : ℕ → List ℕ → List Cut
-line_cut n line = if is_white_line line then [] else dark_cut n line ∷ []
+-- a block that is open: the number of its first line, and its text so far, where it has a line
+pub record Block : Type 0 where
+  pub first : ℕ
+  pub text : Option (List ℕ)
 
--- the commands of lines, the first of which has this number
-abbrev pub lines_cuts : ℕ → List (List ℕ) → List Cut
-lines_cuts n [] = []
-lines_cuts n (line ∷ more) = line_cut n line ++ lines_cuts (n + 1) more
+abbrev pub block_of : ℕ → Option (List ℕ) → Block
+block_of first text = record { first = first; text = text }
+
+-- one more line of a text whose lines are joined by line feeds
+abbrev pub joined : Option (List ℕ) → List ℕ → List ℕ
+joined None line = line
+joined (Some text) line = text ++ 10 ∷ line
+
+-- the command of a block
+abbrev pub block_cut : Block → Fate → Cut
+block_cut b fate = sized_cut (unwrap_or b.text []) b.first fate
+
+-- the commands that a line gives, by its number, behind an open block or none: itself, or the block that it ends
+abbrev pub line_cuts : ℕ → Option Block → List ℕ → List Cut
+line_cuts n None line = if is_idle_line line || is_opening_line line then [] else sized_cut line n Whole ∷ []
+line_cuts n (Some b) line = if is_closing_line line then block_cut b Whole ∷ [] else []
+
+-- the block that is open behind a line: one that the line opens, or the block before it with the line
+abbrev pub block_after : ℕ → Option Block → List ℕ → Option Block
+block_after n None line = if is_opening_line line then Some (block_of (n + 1) None) else None
+block_after n (Some b) line = if is_closing_line line then None else Some (block_of b.first (Some (joined b.text line)))
+
+-- the commands that end in lines, the first of which has this number
+abbrev pub lines_cuts : ℕ → Option Block → List (List ℕ) → List Cut
+lines_cuts n before [] = []
+lines_cuts n before (line ∷ more) = line_cuts n before line ++ lines_cuts (n + 1) (block_after n before line) more
+
+-- the block that is open behind lines
+abbrev pub open_block : ℕ → Option Block → List (List ℕ) → Option Block
+open_block n before [] = before
+open_block n before (line ∷ more) = open_block (n + 1) (block_after n before line) more
+
+-- the command of a block that the input's end cuts off
+abbrev pub cut_off : Option Block → List Cut
+cut_off None = []
+cut_off (Some b) = block_cut b Unfinished ∷ []
 
 -- the commands of a whole input
 abbrev pub cuts : List ℕ → List Cut
-cuts bytes = lines_cuts 1 (lines bytes)
+cuts bytes = lines_cuts 1 None (lines bytes) ++ cut_off (open_block 1 None (lines bytes))
 
 -- the commands that have ended, of an input that may go on
 abbrev pub ended : List ℕ → List Cut
-ended bytes = lines_cuts 1 (ended_lines bytes)
+ended bytes = lines_cuts 1 None (ended_lines bytes)
 
--- what a cutter holds: the open line, how many lines have ended, and the commands that it has not given yet
+-- what a cutter holds: the open line, how many lines have ended, the open block, and the commands that it has not given yet
 pub record Cutting : Type 0 where
   pub rest : List ℕ
   pub count : ℕ
+  pub block : Option Block
   pub waiting : List Cut
 
 -- the cutter was fed these bytes
 pub record StandsFor (c : Cutting) (bytes : List ℕ) : Type 0 where
   pub rest : c.rest ≡ open_line bytes
   pub count : c.count ≡ length (ended_lines bytes)
+  pub block : c.block ≡ open_block 1 None (ended_lines bytes)
 
 -- The cutter was fed these bytes, and then a piece: it stands for both, and the commands that ended by the piece wait.
 pub record FeedsOn (old : Cutting) (bytes piece : List ℕ) (new : Cutting) : Type 0 where

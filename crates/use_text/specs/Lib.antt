@@ -6,3 +6,4 @@ pub mod Pieces
 pub mod Tokens
 pub mod Lines
 pub mod Cuts
+pub mod Pending

@@ -1,6 +1,7 @@
 -- The lines of bytes.
-use Rattle.std.specs.Prelude.{ℕ, ◌==◌, Bool, ◌||◌, if◌then◌else◌, List, [], ◌∷◌}
+use Rattle.std.specs.Prelude.{ℕ, ◌==◌, Bool, true, false, ◌||◌, ◌&&◌, if◌then◌else◌, List, [], ◌∷◌, length, drop, take_while, codes}
 use Rattle.std.specs.List.{list_all}
+use Rattle.use_text.specs.Pieces.{begins}
 
 abbrev pub onto_first : ℕ → List (List ℕ) → List (List ℕ)
 onto_first b [] = (b ∷ []) ∷ []
@@ -45,5 +46,28 @@ open_line bytes = last_part (parts bytes)
 abbrev pub is_blank : ℕ → Bool
 is_blank b = (b == 32) || (b == 9) || (b == 13)
 
-abbrev pub is_white_line : List ℕ → Bool
-is_white_line line = list_all is_blank line
+-- a line from its first byte on that is not white
+abbrev pub dark_part : List ℕ → List ℕ
+dark_part line = drop (length (take_while is_blank line)) line
+
+-- nothing dark, or a comment
+abbrev pub is_idle : List ℕ → Bool
+is_idle [] = true
+is_idle (b ∷ rest) = begins (b ∷ rest) (codes "--") || begins (b ∷ rest) (codes "//")
+
+-- this one byte, and white behind it
+abbrev pub is_only : ℕ → List ℕ → Bool
+is_only mark [] = false
+is_only mark (b ∷ rest) = (b == mark) && list_all is_blank rest
+
+-- a line that is white, or whose first bytes that are not white begin a comment
+abbrev pub is_idle_line : List ℕ → Bool
+is_idle_line line = is_idle (dark_part line)
+
+-- `\` between white
+abbrev pub is_opening_line : List ℕ → Bool
+is_opening_line line = is_only 92 (dark_part line)
+
+-- `.` between white
+abbrev pub is_closing_line : List ℕ → Bool
+is_closing_line line = is_only 46 (dark_part line)

@@ -1,5 +1,8 @@
 -- The tokens of a text, or the refusal of the first bytes that are none.
-use Rattle.std.specs.Prelude.{ℕ, zero, suc, ◌≡◌, ◌+◌, ◌-◌, ◌<◌, ◌≤◌, List, [], ◌∷◌, ◌++◌, Option, Some, None, Result, Ok, Err, ⊤, length, drop}
+use Rattle.std.specs.Prelude.{ℕ, zero, suc, ◌≡◌, ◌+◌, ◌-◌, ◌<◌, ◌≤◌, List, [], ◌∷◌, ◌++◌, Option, Some, None, Result, Ok, Err, ⊤, length, take, drop, ◌==◌, if◌then◌else◌}
+use Rattle.std.specs.Str.Lossy.{utf8_valid_len}
+use Rattle.use_text.specs.declared.code.Family.TheVariants.{L}
+use Rattle.use_text.specs.Codes.{code_of}
 use Rattle.use_text.specs.declared.lexer.LexFault.{LexFault}
 use Rattle.use_text.specs.declared.lexer.LexFault.TheVariants.{Memory, Bad as Refused}
 use Rattle.use_text.specs.declared.place.Place.{Place}
@@ -10,7 +13,7 @@ use Rattle.use_text.specs.declared.token.TokenKind.TheVariants.{End}
 use Rattle.use_text.specs.declared.piece.Piece.{Piece}
 use Rattle.use_text.specs.declared.piece.Piece.TheVariants.{White, Token, Bad}
 use Rattle.use_text.specs.Kinds.{number_of}
-use Rattle.use_text.specs.Places.{place_at, behind}
+use Rattle.use_text.specs.Places.{place_at, behind, behind_all}
 use Rattle.use_text.specs.Pieces.{piece_of}
 use Rattle.use_text.specs.Refusals.{refusal_at}
 
@@ -39,9 +42,19 @@ tokens_from skip at place end [] = Ok (end ∷ [])
 tokens_from zero at place end (b ∷ rest) = reading (piece_of (b ∷ rest)) at place end (λ skip end. tokens_from skip (at + 1) (behind place b) end rest)
 tokens_from (suc skip) at place end (b ∷ rest) = tokens_from skip (at + 1) (behind place b) end rest
 
--- the tokens of a text whose first line has this number
+-- the tokens of a text that is UTF-8, whose first line has this number
+abbrev pub tokens_of_utf8 : ℕ → List ℕ → Tokens
+tokens_of_utf8 first_line text = tokens_from 0 0 (place_at first_line 1) (token_at End 0 0 (place_at first_line 1)) text
+
+-- the place behind the longest front of the text that is UTF-8
+abbrev pub utf8_end : ℕ → List ℕ → Place
+utf8_end first_line text = behind_all (place_at first_line 1) (take (utf8_valid_len text) text)
+
+-- the tokens of a text whose first line has this number; a text that is not UTF-8 is refused at its first byte that is not
 abbrev pub tokens : ℕ → List ℕ → Tokens
-tokens first_line text = tokens_from 0 0 (place_at first_line 1) (token_at End 0 0 (place_at first_line 1)) text
+tokens first_line text =
+    if utf8_valid_len text == length text then tokens_of_utf8 first_line text
+    else Err (refusal_at (code_of L 1) (utf8_end first_line text))
 
 -- what was read and then what follows
 abbrev pub after_step : Option TokenAt → Tokens → Tokens

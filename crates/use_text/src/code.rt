@@ -1,6 +1,7 @@
 ghost use Rattle.std.specs.Prelude.{◌≡◌};
-ghost use Rattle.use_text.specs.Codes.{text_of};
+ghost use Rattle.use_text.specs.Codes.{text_among, text_in, text_of};
 
+use crate::texts;
 use std::fmt;
 
 /// The kind of rule that a refusal names.
@@ -74,12 +75,22 @@ impl fmt::Display for Code {
 }
 
 impl Code {
-    /// The form is not built yet.
-    pub const S0: Code = Code {
-        family: Family::S,
-        number: 0,
+    /// A command that is too long.
+    pub const K1: Code = Code {
+        family: Family::K,
+        number: 1,
     };
-    /// No token begins here.
+    /// A block that the input's end cut off.
+    pub const K2: Code = Code {
+        family: Family::K,
+        number: 2,
+    };
+    /// A text that is not UTF-8.
+    pub const L1: Code = Code {
+        family: Family::L,
+        number: 1,
+    };
+    /// Bytes at which no token begins.
     pub const L2: Code = Code {
         family: Family::L,
         number: 2,
@@ -89,10 +100,20 @@ impl Code {
         family: Family::L,
         number: 3,
     };
+    /// A string or a comment that is not closed.
+    pub const L4: Code = Code {
+        family: Family::L,
+        number: 4,
+    };
     /// A name that is too long.
     pub const L5: Code = Code {
         family: Family::L,
         number: 5,
+    };
+    /// A form that is not built yet.
+    pub const S0: Code = Code {
+        family: Family::S,
+        number: 0,
     };
     /// No such file.
     pub const F1: Code = Code {
@@ -106,17 +127,42 @@ impl Code {
     };
 }
 
-/// The text of a code, or an empty one where there is no such code.
+/// The text of a number among rows, or an empty one.
+fn text_among(rows: &[(u8, &'static str)], number: u8) -> &'static str
+    ensures { result.now ≡ text_among rows.now (λ t. t.now) number }
+{
+    'rows: for row in rows {
+        if row.0 == number {
+            return row.1;
+        }
+    }
+    ""
+}
+
+fn text_in(family: Family, number: u8) -> &'static str
+    ensures { result.now ≡ text_in family number }
+{
+    match family {
+        Family::K => text_among(&texts::K_TEXTS, number),
+        Family::L => text_among(&texts::L_TEXTS, number),
+        Family::S => text_among(&texts::S_TEXTS, number),
+        Family::M => text_among(&texts::M_TEXTS, number),
+        Family::N => text_among(&texts::N_TEXTS, number),
+        Family::T => text_among(&texts::T_TEXTS, number),
+        Family::X => text_among(&texts::X_TEXTS, number),
+        Family::B => text_among(&texts::B_TEXTS, number),
+        Family::C => text_among(&texts::C_TEXTS, number),
+        Family::U => text_among(&texts::U_TEXTS, number),
+        Family::F => text_among(&texts::F_TEXTS, number),
+        Family::V => text_among(&texts::V_TEXTS, number),
+    }
+}
+
+/// The text of a code, or an empty one where there is no such code. In those of C1 and C2 the
+/// letters C, N and V stand for the class, the contract's name and the value.
+#[tactic(auto, unfolding(crate::specs::Codes::text_of))]
 pub fn text_of(code: Code) -> &'static str
     ensures { result.now ≡ text_of code }
 {
-    match (code.family, code.number) {
-        (Family::L, 2) => "no token begins here",
-        (Family::L, 3) => "number past the range",
-        (Family::L, 5) => "name is too long",
-        (Family::S, 0) => "form is not built yet",
-        (Family::F, 1) => "no such file",
-        (Family::F, 2) => "file is too long",
-        _ => "",
-    }
+    text_in(code.family, code.number)
 }

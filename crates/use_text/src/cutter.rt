@@ -1,35 +1,37 @@
-ghost use Rattle.std.specs.Prelude.{◌≡◌, [], ◌∷◌, ◌++◌, ◌+◌, ◌<◌, ◌≤◌, IfSome, IfNone, OnOk, OnErr, length, drop, slice_range, option_to_list};
-ghost use Rattle.use_text.specs.Lines.{parts, is_blank, is_white_line};
-ghost use Rattle.use_text.specs.Cuts.{StandsFor, StaysEnded, IsFed, IsFinished, IsCommand, dark_cut, line_cut};
+ghost use Rattle.std.specs.Prelude.{◌≡◌, [], ◌++◌, ◌+◌, ◌<◌, ◌≤◌, IfSome, IfNone, OnOk, OnErr, length, option_to_list};
+ghost use Rattle.use_text.specs.Cuts.{StandsFor, StaysEnded, IsFed, IsFinished, IsCommand, line_cuts, block_after};
 
-use crate::{Bytes, Cut, Fate};
+use crate::Cut;
+use crate::line::line_end;
+use crate::pending::Pending;
 use std::alloc::{AllocError, Global};
 use std::collections::VecDeque;
 use std::marker::Model;
 use std::mem;
 
-/// The most bytes of a command.
-const MAX_COMMAND: usize = 65536;
-
-/// Cuts a stream into commands, in whatever pieces it comes. Each line that is not white is one
-/// command; a line ends at LF, and the last one may lack it.
+/// Cuts a stream into commands, in whatever pieces it comes. A line ends at LF, and the last one may
+/// lack it. A line that is white, or a comment alone, gives no command. A line that is `\` between
+/// white opens a block, and the next line that is `.` between white ends it: the block is one
+/// command. Every other line is one.
 #[derive(Drop)]
 pub struct Cutter {
     alloc: Global,
-    rest: Vec<u8>,
+    pending: Pending,
     count: u32,
     waiting: VecDeque<Cut>,
 }
 
 impl Model for Cutter {
-    ghost use Rattle.std.specs.Prelude.{All, ◌≤◌};
+    ghost use Rattle.std.specs.Prelude.{All, ◌≤◌, ◌+◌};
     ghost use Rattle.use_text.specs.Cuts.{Cutting, IsCommand};
 
     ghost Value = { Cutting };
 
-    ghost view = { λ c. record { rest = c.rest.items; count = c.count; waiting = c.waiting.items } };
+    ghost use Rattle.use_text.specs.Pending.{pending_line, pending_block, first_pending};
 
-    ghost invariant = { λ c. (c.count ≤ 4000000000) × All (IsCommand c.count) c.waiting.items };
+    ghost view = { λ c. record { rest = pending_line c.pending; count = c.count; block = pending_block c.pending; waiting = c.waiting.items } };
+
+    ghost invariant = { λ c. (c.count ≤ 4000000000) × (first_pending c.pending ≤ c.count + 1) × All (IsCommand c.count) c.waiting.items };
 }
 
 impl Cutter {
@@ -41,25 +43,25 @@ impl Cutter {
     {
         Cutter {
             alloc,
-            rest: Vec::new(alloc),
+            pending: Pending::Line(Vec::new(alloc)),
             count: 0,
             waiting: VecDeque::new(alloc),
         }
     }
 
-    /// Takes the next bytes of the stream.
+    /// Takes the next bytes of the stream. After an `Err` the cutter stands for no bytes.
     pub fn feed(&mut self, piece: &[u8]) -> Result<(), AllocError>
         requires { self.old.count + length piece.now ≤ 4000000000 }
         ensures fed { OnOk result (IsFed self.old piece.now self.new) }
-        ensures count { OnOk result (self.new.count ≤ self.old.count + length piece.now) }
+        ensures lines { OnOk result (self.new.count ≤ self.old.count + length piece.now) }
     {
         let mut at = 0usize;
         'lines: while let Some(end) = line_end(piece, at) {
-            self.rest.extend_from_slice(&piece[at..end])?;
+            self.extend(&piece[at..end])?;
             self.end_line()?;
             at = end + 1;
         }
-        self.rest.extend_from_slice(&piece[at..])?;
+        self.extend(&piece[at..])?;
         Ok(())
     }
 
@@ -67,7 +69,7 @@ impl Cutter {
     pub fn next(&mut self) -> Option<Cut>
         ensures given { self.old.waiting ≡ option_to_list result ++ self.new.waiting }
         ensures none { IfNone result (self.old.waiting ≡ []) }
-        ensures rest { (self.new.rest ≡ self.old.rest) × (self.new.count ≡ self.old.count) }
+        ensures rest { (self.new.rest ≡ self.old.rest) × (self.new.count ≡ self.old.count) × (self.new.block ≡ self.old.block) }
         ensures command { IfSome result (IsCommand self.old.count) }
     {
         self.waiting.pop_front()
@@ -78,26 +80,42 @@ impl Cutter {
     pub fn finish(&mut self) -> Option<Cut>
         requires { self.old.waiting ≡ [] }
         ensures last { IsFinished self.old (option_to_list result) }
-        ensures command { IfSome result (IsCommand (self.old.count + 1)) }
+        ensures command { IfSome result (IsCommand (self.old.count + 2)) }
         ensures stands { StandsFor self.new [] }
         ensures waiting { self.new.waiting ≡ [] }
     {
-        let line = mem::replace(&mut self.rest, Vec::new(self.alloc));
+        let pending = mem::replace(&mut self.pending, Pending::Line(Vec::new(self.alloc)));
         let number = self.count + 1;
         self.count = 0;
-        line_cut(line, number)
+        pending.last_cut(self.alloc, number)
+    }
+
+    /// The open line goes on.
+    fn extend(&mut self, more: &[u8]) -> Result<(), AllocError>
+        ensures rest { OnOk result (self.new.rest ≡ self.old.rest ++ more.now) }
+        ensures block { OnOk result (self.new.block ≡ self.old.block) }
+        ensures count { self.new.count ≡ self.old.count }
+        ensures waiting { self.new.waiting ≡ self.old.waiting }
+    {
+        let pending = mem::replace(&mut self.pending, Pending::Line(Vec::new(self.alloc)));
+        self.pending = pending.with_bytes(more)?;
+        Ok(())
     }
 
     /// The open line has ended.
     fn end_line(&mut self) -> Result<(), AllocError>
         requires { self.old.count < 4000000000 }
-        ensures rest { self.new.rest ≡ [] }
-        ensures count { self.new.count ≡ self.old.count + 1 }
-        ensures waiting { OnOk result (self.new.waiting ≡ self.old.waiting ++ line_cut (self.old.count + 1) self.old.rest) }
+        ensures rest { OnOk result (self.new.rest ≡ []) }
+        ensures count { OnOk result (self.new.count ≡ self.old.count + 1) }
+        ensures block { OnOk result (self.new.block ≡ block_after (self.old.count + 1) self.old.block self.old.rest) }
+        ensures waiting { OnOk result (self.new.waiting ≡ self.old.waiting ++ line_cuts (self.old.count + 1) self.old.block self.old.rest) }
     {
-        let line = mem::replace(&mut self.rest, Vec::new(self.alloc));
-        self.count += 1;
-        push_if_some(&mut self.waiting, line_cut(line, self.count))
+        let pending = mem::replace(&mut self.pending, Pending::Line(Vec::new(self.alloc)));
+        let number = self.count + 1;
+        let after = pending.after_line(self.alloc, number)?;
+        self.count = number;
+        self.pending = after.pending;
+        push_if_some(&mut self.waiting, after.cut)
     }
 }
 
@@ -109,62 +127,4 @@ fn push_if_some(waiting: &mut VecDeque<Cut>, cut: Option<Cut>) -> Result<(), All
         waiting.push_back(cut)?;
     }
     Ok(())
-}
-
-/// Where the line that begins at `at` ends, if a line feed ends it.
-fn line_end(bytes: &[u8], at: usize) -> Option<usize>
-    requires { at ≤ length bytes.now }
-    ensures within { IfSome result (λ end. (at ≤ end) × (end < length bytes.now)) }
-    ensures ended { IfSome result (λ end. parts (drop at bytes.now) ≡ slice_range bytes.now at end ∷ parts (drop (end + 1) bytes.now)) }
-    ensures open { IfNone result (parts (drop at bytes.now) ≡ drop at bytes.now ∷ []) }
-{
-    let mut end = at;
-    'bytes: while end < bytes.len() {
-        if bytes[end] == b'\n' {
-            return Some(end);
-        }
-        end += 1;
-    }
-    None
-}
-
-fn is_blank(b: u8) -> bool
-    ensures { result ≡ is_blank b }
-{
-    b == b' ' || b == b'\t' || b == b'\r'
-}
-
-fn is_white_line(line: &[u8]) -> bool
-    ensures { result ≡ is_white_line line.now }
-{
-    line.iter().all(|b| is_blank(*b))
-}
-
-/// The command of a line, if it gives one.
-fn line_cut(line: Vec<u8>, number: u32) -> Option<Cut>
-    ensures cut { option_to_list result ≡ line_cut number line.items }
-    ensures command { IfSome result (IsCommand number) }
-{
-    if is_white_line(&line) {
-        return None;
-    }
-    Some(whole_or_too_long(line, number))
-}
-
-fn whole_or_too_long(line: Vec<u8>, number: u32) -> Cut
-    ensures cut { result ≡ dark_cut number line.items }
-    ensures command { IsCommand number result }
-{
-    let mut line = line;
-    let fate = if line.len() <= MAX_COMMAND {
-        Fate::Whole
-    } else {
-        line.clear();
-        Fate::TooLong
-    };
-    Cut {
-        text: Bytes::from_vec(line),
-        first_line: number,
-        fate,
-    }
 }

@@ -1,11 +1,12 @@
-ghost use Rattle.std.specs.Prelude.{◌≡◌, ◌+◌, ◌<◌, ◌≤◌, ◌^◌, ◌-◌, length, drop, IfOk, IfErr, IfSome, OnOk, All, ◌++◌, option_to_list};
+ghost use Rattle.std.specs.Prelude.{◌≡◌, ◌+◌, ◌<◌, ◌≤◌, ◌^◌, ◌-◌, length, drop, IfOk, IfErr, IfSome, IfNone, OnOk, All, ◌++◌, option_to_list};
+ghost use Rattle.std.specs.Str.Lossy.{utf8_valid_len};
 ghost use Rattle.use_text.specs.Places.{behind, behind_all, IsAdvanced};
-ghost use Rattle.use_text.specs.Tokens.{tokens, tokens_from, after_step, Lexes, IsWithin, IsFront, IsPieceAt, IsNearStart};
+ghost use Rattle.use_text.specs.Tokens.{tokens, tokens_of_utf8, utf8_end, tokens_from, after_step, Lexes, IsWithin, IsFront, IsPieceAt, IsNearStart};
 ghost use Rattle.use_text.specs.Pieces.{piece_of};
 ghost use Rattle.use_text.specs.declared.piece.Piece.TheVariants.{White, Token as TokenPiece};
 
 use crate::piece::{Piece, piece_of};
-use crate::{Place, Refusal, Token, TokenKind, Tokens};
+use crate::{Code, Place, Refusal, Token, TokenKind, Tokens};
 use std::alloc::{AllocError, AllocFailed, Global};
 use thiserror::Error;
 use use_lists::Items;
@@ -179,11 +180,11 @@ fn push_if_some(tokens: &mut Vec<Token>, token: Option<Token>) -> Result<(), All
     Ok(())
 }
 
-/// The tokens of a text whose first line has this number.
-pub fn lex(alloc: Global, text: &[u8], first_line: u32) -> Result<Tokens, LexFault>
+/// The tokens of a text that is UTF-8.
+fn lex_utf8(alloc: Global, text: &[u8], first_line: u32) -> Result<Tokens, LexFault>
     requires text { length text.now ≤ 4194304 }
     requires line { first_line ≤ 4000000000 }
-    ensures tokens { Lexes (tokens first_line text.now) result }
+    ensures tokens { Lexes (tokens_of_utf8 first_line text.now) result }
     ensures within { IfOk result (All (IsWithin (length text.now))) }
 {
     let mut tokens = Vec::new(alloc);
@@ -210,4 +211,38 @@ pub fn lex(alloc: Global, text: &[u8], first_line: u32) -> Result<Tokens, LexFau
     }
     tokens.push(end)?;
     Ok(Items::from_vec(tokens))
+}
+
+/// The place of the first byte that is not UTF-8, if there is one.
+fn first_fault(text: &[u8], first_line: u32) -> Option<Place>
+    requires text { length text.now ≤ 4194304 }
+    requires line { first_line ≤ 4000000000 }
+    ensures fault { IfSome result (λ place. (utf8_valid_len text.now < length text.now) × (place ≡ utf8_end first_line text.now)) }
+    ensures none { IfNone result (utf8_valid_len text.now ≡ length text.now) }
+{
+    let start = Place {
+        line: first_line,
+        col: 1,
+    };
+    match str::from_utf8(text) {
+        Ok(_) => None,
+        Err(e) => Some(behind_all(start, &text[..e.valid_up_to()])),
+    }
+}
+
+/// The tokens of a text whose first line has this number. A text that is not UTF-8 is refused L1 at
+/// its first byte that is not; else the first bytes that begin no token are, by L2 to L5.
+pub fn lex(alloc: Global, text: &[u8], first_line: u32) -> Result<Tokens, LexFault>
+    requires text { length text.now ≤ 4194304 }
+    requires line { first_line ≤ 4000000000 }
+    ensures tokens { Lexes (tokens first_line text.now) result }
+    ensures within { IfOk result (All (IsWithin (length text.now))) }
+{
+    match first_fault(text, first_line) {
+        Some(place) => Err(LexFault::Bad(Refusal {
+            code: Code::L1,
+            place,
+        })),
+        None => lex_utf8(alloc, text, first_line),
+    }
 }

@@ -1,14 +1,19 @@
 //! From bytes to commands and tokens: cuts of a stream, tokens with their places, and refusals.
 #![tactic(auto)]
 
+mod block;
 mod code;
 mod cut;
 mod cutter;
 mod lexer;
+mod line;
+mod pending;
 mod piece;
 mod place;
 mod refusal;
+mod texts;
 mod token;
+mod words;
 
 pub use code::{Code, Family, text_of};
 pub use cut::{Cut, Fate};
@@ -25,3 +30,6 @@ pub type Bytes = Items<u8>;
 
 /// The tokens of a text; the last one is `End`.
 pub type Tokens = Items<Token>;
+
+#[cfg(test)]
+mod tests;

@@ -1,10 +1,11 @@
-ghost use Rattle.std.specs.Prelude.{◌≡◌, ◌^◌, ◌-◌, min, length, take_while};
-ghost use Rattle.std.specs.List.{list_any};
-ghost use Rattle.use_text.specs.Pieces.{is_white, is_letter, is_digit, is_name_byte, digits_value, same_text, is_reserved, word_kind, word_piece, number_of_digits, number_piece, piece_of};
+ghost use Rattle.std.specs.Prelude.{◌≡◌, ◌^◌, ◌-◌, ◌+◌, ◌<◌, ◌≤◌, false, min, length, drop, take_while};
+ghost use Rattle.use_text.specs.Pieces.{is_white, is_letter, is_digit, is_name_byte, is_in_line, digits_value, same_text, begins, kind_among, word_kind, word_piece, number_of_digits, number_piece, string_end, string_piece, comment_end, comment_piece, at_piece, symbol_among, symbol_piece, mark_piece, piece_of};
 
+use crate::words::{SYMBOLS, WORDS};
 use crate::{Code, TokenKind};
 
-/// What stands at the front of bytes: white space, a token, or bytes that a rule refuses.
+/// What stands at the front of bytes: white space or a comment, a token, or bytes that a rule
+/// refuses.
 #[derive(Clone, Copy, Debug, PartialEq, Eq)]
 pub enum Piece {
     White { length: usize },
@@ -57,89 +58,41 @@ fn digits_length(bytes: &[u8]) -> usize
     bytes.iter().take_while(|b| is_digit(**b)).count()
 }
 
+fn line_length(bytes: &[u8]) -> usize
+    ensures { result ≡ length (take_while is_in_line bytes.now) }
+{
+    bytes.iter().take_while(|b| **b != b'\n').count()
+}
+
 fn is_word(word: &[u8], text: &str) -> bool
     ensures { result ≡ same_text word.now text.now }
 {
     word == text.as_bytes()
 }
 
-/// The reserved words but `model`.
-const RESERVED: [&str; 50] = [
-    "abstract",
-    "aggregation",
-    "and",
-    "association",
-    "attributes",
-    "Bag",
-    "begin",
-    "between",
-    "class",
-    "composition",
-    "constraints",
-    "context",
-    "declare",
-    "delete",
-    "destroy",
-    "div",
-    "do",
-    "else",
-    "end",
-    "endif",
-    "enum",
-    "false",
-    "for",
-    "from",
-    "if",
-    "implies",
-    "in",
-    "insert",
-    "into",
-    "inv",
-    "invalid",
-    "let",
-    "mod",
-    "new",
-    "not",
-    "null",
-    "operations",
-    "or",
-    "ordered",
-    "OrderedSet",
-    "post",
-    "pre",
-    "role",
-    "Sequence",
-    "Set",
-    "then",
-    "true",
-    "Undefined",
-    "while",
-    "xor",
-];
-
-fn is_among(word: &[u8], words: &[&str]) -> bool
-    ensures { result ≡ list_any (λ w. same_text word.now w.now) words.now }
+pub fn begins(bytes: &[u8], front: &str) -> bool
+    ensures { result ≡ begins bytes.now front.now }
 {
-    words.iter().any(|w| is_word(word, w))
+    bytes.starts_with(front.as_bytes())
 }
 
-fn is_reserved(word: &[u8]) -> bool
-    ensures { result ≡ is_reserved word.now }
+/// The kind that the first row of a word gives it, or a name's.
+fn kind_among(rows: &[(&str, TokenKind)], word: &[u8]) -> TokenKind
+    ensures { result ≡ kind_among rows.now (λ t. t.now) word.now }
 {
-    is_among(word, &RESERVED)
+    'rows: for row in rows {
+        if is_word(word, row.0) {
+            return row.1;
+        }
+    }
+    TokenKind::Name
 }
 
+#[tactic(auto, unfolding(crate::specs::Pieces::word_kind))]
 fn word_kind(word: &[u8]) -> TokenKind
     ensures { result ≡ word_kind word.now }
 {
-    if is_word(word, "model") {
-        return TokenKind::Model;
-    }
-    if is_reserved(word) {
-        TokenKind::Reserved
-    } else {
-        TokenKind::Name
-    }
+    kind_among(&WORDS, word)
 }
 
 /// A word of these bytes.
@@ -194,6 +147,111 @@ fn number_piece(digits: &[u8]) -> Piece
     }
 }
 
+/// Where a string ends, given the bytes behind its first quote.
+fn string_end(bytes: &[u8]) -> Option<usize>
+    ensures { result ≡ string_end 1 false bytes.now }
+{
+    let mut taken = false;
+    'bytes: for (i, b) in bytes.iter().enumerate() {
+        if *b == b'\n' {
+            return None;
+        }
+        if *b == b'\'' && !taken {
+            return Some(i + 2);
+        }
+        taken = *b == b'\\' && !taken;
+    }
+    None
+}
+
+/// The string whose first quote these bytes are behind.
+fn string_piece(rest: &[u8]) -> Piece
+    ensures { result ≡ string_piece rest.now }
+{
+    match string_end(rest) {
+        Some(length) => Piece::Token {
+            kind: TokenKind::Str,
+            length,
+        },
+        None => Piece::Bad { code: Code::L4 },
+    }
+}
+
+/// Where a comment ends, given the bytes behind its `/*`.
+fn comment_end(bytes: &[u8]) -> Option<usize>
+    ensures { result ≡ comment_end 2 false bytes.now }
+{
+    let mut star = false;
+    'bytes: for (i, b) in bytes.iter().enumerate() {
+        if *b == b'/' && star {
+            return Some(i + 3);
+        }
+        star = *b == b'*';
+    }
+    None
+}
+
+/// The comment whose `/*` these bytes are behind.
+fn comment_piece(rest: &[u8]) -> Piece
+    ensures { result ≡ comment_piece rest.now }
+{
+    match comment_end(rest) {
+        Some(length) => Piece::White { length },
+        None => Piece::Bad { code: Code::L4 },
+    }
+}
+
+/// The `@` that this word is behind.
+fn at_piece(word: &[u8]) -> Piece
+    ensures { result ≡ at_piece word.now }
+{
+    if is_word(word, "pre") {
+        Piece::Token {
+            kind: TokenKind::AtPre,
+            length: word.len() + 1,
+        }
+    } else {
+        Piece::Bad { code: Code::L2 }
+    }
+}
+
+/// The first symbol among rows that the bytes begin with.
+fn symbol_among(rows: &[(&str, TokenKind)], bytes: &[u8]) -> Piece
+    ensures { result ≡ symbol_among rows.now (λ t. t.now) bytes.now }
+{
+    'rows: for row in rows {
+        if begins(bytes, row.0) {
+            return Piece::Token {
+                kind: row.1,
+                length: row.0.len(),
+            };
+        }
+    }
+    Piece::Bad { code: Code::L2 }
+}
+
+#[tactic(auto, unfolding(crate::specs::Pieces::symbol_piece))]
+fn symbol_piece(bytes: &[u8]) -> Piece
+    ensures { result ≡ symbol_piece bytes.now }
+{
+    symbol_among(&SYMBOLS, bytes)
+}
+
+/// The comment or the symbol at the front of bytes.
+fn mark_piece(bytes: &[u8]) -> Piece
+    ensures { result ≡ mark_piece bytes.now }
+{
+    if begins(bytes, "--") || begins(bytes, "//") {
+        return Piece::White {
+            length: line_length(bytes),
+        };
+    }
+    if begins(bytes, "/*") {
+        return comment_piece(&bytes[2..]);
+    }
+    symbol_piece(bytes)
+}
+
 /// What stands at the front of bytes.
 pub fn piece_of(bytes: &[u8]) -> Piece
     ensures { result ≡ piece_of bytes.now }
@@ -213,14 +271,8 @@ pub fn piece_of(bytes: &[u8]) -> Piece
         return number_piece(&bytes[..digits_length(bytes)]);
     }
     match first {
-        b'?' => Piece::Token {
-            kind: TokenKind::Question,
-            length: 1,
-        },
-        b'+' => Piece::Token {
-            kind: TokenKind::Plus,
-            length: 1,
-        },
-        _ => Piece::Bad { code: Code::L2 },
+        b'\'' => string_piece(&bytes[1..]),
+        b'@' => at_piece(&bytes[1..1 + name_length(&bytes[1..])]),
+        _ => mark_piece(bytes),
     }
 }

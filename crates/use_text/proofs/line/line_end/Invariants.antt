@@ -1,7 +1,7 @@
 use Rattle.std.proofs.Common.{length, ◌-◌, ◌≡◌, ◌≤◌, drop, slice_range}
 use Rattle.use_text.specs.Lines.{parts}
 use Rattle.use_text.proofs.LineLemmas.{glue}
-use Rattle.use_text.proofs.cutter.line_end.Given as goal
+use Rattle.use_text.proofs.line.line_end.Given as goal
 
 abbrev pub invariant-bytes : goal.invariant-bytes
 invariant-bytes l = record {

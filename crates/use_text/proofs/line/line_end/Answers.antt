@@ -1,6 +1,6 @@
 use Rattle.std.proofs.Common.{arith}
 use Rattle.use_text.proofs.LineLemmas.{line_begins, line_goes_on}
-use Rattle.use_text.proofs.cutter.line_end.Goals as goal
+use Rattle.use_text.proofs.line.line_end.Goals as goal
 
 pub bytes-init : goal.bytes-init
 bytes-init c = record { ahead = omega arith; within = c.requires; so_far = line_begins c.args.bytes.now c.args.at }

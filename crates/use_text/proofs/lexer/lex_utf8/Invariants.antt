@@ -1,6 +1,6 @@
 use Rattle.std.proofs.Common.{length, ◌-◌, ◌≡◌, ◌≤◌, drop, All}
-use Rattle.use_text.specs.Tokens.{tokens, tokens_from, before_all, IsWithin, IsNearStart}
-use Rattle.use_text.proofs.lexer.lex.Given as goal
+use Rattle.use_text.specs.Tokens.{tokens_of_utf8, tokens_from, before_all, IsWithin, IsNearStart}
+use Rattle.use_text.proofs.lexer.lex_utf8.Given as goal
 
 abbrev pub invariant-pieces : goal.invariant-pieces
 invariant-pieces l = record {
@@ -8,7 +8,7 @@ invariant-pieces l = record {
   near : IsNearStart l.text l.at l.place;
   each : All (IsWithin (length l.text)) l.tokens.items;
   end : IsWithin (length l.text) l.end;
-  so_far : before_all l.tokens.items (tokens_from 0 l.at l.place l.end (drop l.at l.text)) ≡ tokens l.first_line l.text;
+  so_far : before_all l.tokens.items (tokens_from 0 l.at l.place l.end (drop l.at l.text)) ≡ tokens_of_utf8 l.first_line l.text;
 }
 
 abbrev pub decreases-pieces : goal.decreases-pieces

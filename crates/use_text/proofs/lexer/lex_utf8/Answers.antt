@@ -1,7 +1,7 @@
 use Rattle.std.proofs.Common.{arith, drop, length}
 use Rattle.use_text.specs.Tokens.{tokens_from}
 use Rattle.use_text.proofs.TokenLemmas.{before_some, within_some}
-use Rattle.use_text.proofs.lexer.lex.Goals as goal
+use Rattle.use_text.proofs.lexer.lex_utf8.Goals as goal
 
 pub pieces-preserved : goal.pieces-preserved
 pieces-preserved c =
