@@ -2,17 +2,14 @@
 use Rattle.std.specs.Prelude.{ℕ, Bool, List, [], ◌∷◌, ◌++◌, codes, fold, ℤ, pos, ◌+ℤ◌, Option, None}
 use Rattle.use_text.specs.declared.cut.Cut.{Cut}
 use Rattle.use_text.specs.declared.refusal.Refusal.{Refusal}
-use Rattle.use_text.specs.declared.code.Family.TheVariants.{S}
-use Rattle.use_text.specs.Codes.{code_of}
-use Rattle.use_text.specs.Places.{place_at}
-use Rattle.use_text.specs.Refusals.{refusal_at, refusal_text}
+use Rattle.use_text.specs.Refusals.{refusal_text}
 use Rattle.ocl_values.specs.declared.value.Value.{Value}
 use Rattle.ocl_values.specs.Integers.{int_value}
 use Rattle.ocl_values.specs.Printing.{value_text}
 use Rattle.use_session.specs.declared.session.Turn.{Turn}
-use Rattle.use_session.specs.declared.session.Turn.TheVariants.{Quiet, Refused}
+use Rattle.use_session.specs.declared.session.Turn.TheVariants.{Quiet, Refused as RefusedBy}
 use Rattle.use_session.specs.declared.command.Command.{Command}
-use Rattle.use_session.specs.declared.command.Command.TheVariants.{Query, Unbuilt}
+use Rattle.use_session.specs.declared.command.Command.TheVariants.{Empty, Query, Refused}
 use Rattle.use_session.specs.Commands.{command_of}
 
 -- What a machine keeps from one command to the next. The forms that are built so far keep nothing.
@@ -46,16 +43,17 @@ refusal_line r = refusal_text r ++ codes "\n"
 
 -- a refused command leaves the machine as it was
 abbrev pub refused : Machine → Refusal → Step
-refused m r = record { machine = m; bytes = refusal_line r; turn = Refused r.code }
+refused m r = record { machine = m; bytes = refusal_line r; turn = RefusedBy r.code }
 
--- a command whose first line has this number
-abbrev pub carried_out : Machine → ℕ → Command → Step
-carried_out m line (Query ns) = record { machine = m; bytes = value_line (int_value (total ns)) (codes "Integer"); turn = Quiet }
-carried_out m line Unbuilt = refused m (refusal_at (code_of S 0) (place_at line 1))
+-- a command that asks for nothing is accepted in silence
+abbrev pub carried_out : Machine → Command → Step
+carried_out m Empty = record { machine = m; bytes = []; turn = Quiet }
+carried_out m (Query ns) = record { machine = m; bytes = value_line (int_value (total ns)) (codes "Integer"); turn = Quiet }
+carried_out m (Refused r) = refused m r
 
 -- one step of the machine
 abbrev pub step : Machine → Cut → Step
-step m cut = carried_out m cut.first_line (command_of cut)
+step m cut = carried_out m (command_of cut)
 
 -- what a session stands for: a machine, and whether it lacked memory before
 pub record Standing : Type 0 where

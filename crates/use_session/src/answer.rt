@@ -8,7 +8,7 @@ use crate::Turn;
 use crate::command::Command;
 use ocl_values::{EnumNo, IntOp, LitNo, Names, ObjNo, Value, int_op, print};
 use std::alloc::{AllocError, Global};
-use use_text::{Code, Place, Refusal};
+use use_text::Refusal;
 
 /// No object is live, and no literal is declared.
 struct NoNames;
@@ -66,29 +66,24 @@ fn write_refusal(alloc: Global, refusal: Refusal, out: &mut Vec<u8>) -> Result<(
     out.extend_from_slice(b"\n")
 }
 
-/// Carries out a command whose first line has this number, and writes its answer.
+/// Carries out a command, and writes its answer.
 pub fn carry_out(
     alloc: Global,
-    line: u32,
     command: &Command,
     out: &mut Vec<u8>,
 ) -> Result<Turn, AllocError>
     requires { AddsUp command.now }
-    ensures bytes { OnOk result (out.new.items ≡ out.old.items ++ (carried_out start line command.now).bytes) }
-    ensures turn { IfOk result (λ turn. turn ≡ (carried_out start line command.now).turn) }
+    ensures bytes { OnOk result (out.new.items ≡ out.old.items ++ (carried_out start command.now).bytes) }
+    ensures turn { IfOk result (λ turn. turn ≡ (carried_out start command.now).turn) }
 {
     match command {
+        Command::Empty => Ok(Turn::Quiet),
         Command::Query(numbers) => {
             write_value(alloc, &sum_of(numbers.as_slice()), "Integer", out)?;
             Ok(Turn::Quiet)
         }
-        Command::Unbuilt => {
-            let place = Place { line, col: 1 };
-            let refusal = Refusal {
-                code: Code::S0,
-                place,
-            };
-            write_refusal(alloc, refusal, out)?;
+        Command::Refused(refusal) => {
+            write_refusal(alloc, *refusal, out)?;
             Ok(Turn::Refused(refusal.code))
         }
     }

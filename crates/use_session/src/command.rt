@@ -1,29 +1,53 @@
 ghost use Rattle.std.specs.Prelude.{◌≡◌, ◌≤◌, IfOk, IfSome, All, length};
 ghost use Rattle.std.specs.Int.{IsNonNegative};
 ghost use Rattle.use_text.specs.Cuts.{IsCommand};
-ghost use Rattle.use_session.specs.Commands.{command_of, command_of_tokens, query_of, AddsUp};
-ghost use Rattle.use_text.specs.Tokens.{tokens};
+ghost use Rattle.use_text.specs.Places.{place_at};
+ghost use Rattle.use_text.specs.Refusals.{refusal_at};
+ghost use Rattle.use_text.specs.Tokens.{tokens, IsWithin};
+ghost use Rattle.use_session.specs.Commands.{command_of, command_of_text, command_of_tokens, command_of_list, query_of, unbuilt, AddsUp};
 
-use crate::sum::sum_numbers;
+use crate::file_word::{first_place, opens_file};
+use crate::sum::{is_kind, sum_numbers};
 use std::alloc::{AllocError, Global};
 use use_lists::Items;
-use use_text::{Cut, Fate, LexFault, lex};
+use use_text::{Code, Cut, Fate, LexFault, Place, Refusal, Token, TokenKind, lex};
 
 /// What a command asks for.
 #[derive(Debug, Drop, PartialEq, Eq)]
 pub enum Command {
+    /// Nothing: it has no token.
+    Empty,
     /// The value of a sum of these numbers.
     Query(Items<i128>),
-    /// A form that is not built yet.
-    Unbuilt,
+    /// It breaks a rule of cuts or tokens, or its form is not built yet.
+    Refused(Refusal),
 }
 
 /// The most numbers of a sum.
 const MAX_NUMBERS: usize = 256;
 
-fn query_of(numbers: Option<Items<i128>>) -> Command
+fn unbuilt(place: Place) -> Command
+    ensures { result ≡ unbuilt place }
+{
+    Command::Refused(Refusal {
+        code: Code::S0,
+        place,
+    })
+}
+
+/// A command that was not cut out whole, by this rule.
+fn uncut(code: Code, line: u32) -> Command
+    ensures { result ≡ Command.Refused (refusal_at code (place_at line 1)) }
+{
+    Command::Refused(Refusal {
+        code,
+        place: Place { line, col: 1 },
+    })
+}
+
+fn query_of(place: Place, numbers: Option<Items<i128>>) -> Command
     requires { IfSome numbers (All IsNonNegative) }
-    ensures command { result ≡ query_of numbers }
+    ensures command { result ≡ query_of place numbers }
     ensures not_negative { AddsUp result }
 {
     match numbers {
@@ -31,10 +55,10 @@ fn query_of(numbers: Option<Items<i128>>) -> Command
             if numbers.len() <= MAX_NUMBERS {
                 Command::Query(numbers)
             } else {
-                Command::Unbuilt
+                unbuilt(place)
             }
         }
-        None => Command::Unbuilt,
+        None => unbuilt(place),
     }
 }
 
@@ -46,20 +70,47 @@ pub fn read_command(alloc: Global, cut: &Cut) -> Result<Command, AllocError>
 {
     match cut.fate {
         Fate::Whole => read_text(alloc, cut.text.as_slice(), cut.first_line),
-        Fate::TooLong => Ok(Command::Unbuilt),
-        Fate::Unfinished => Ok(Command::Unbuilt),
+        Fate::TooLong => Ok(uncut(Code::K1, cut.first_line)),
+        Fate::Unfinished => Ok(uncut(Code::K2, cut.first_line)),
     }
 }
 
 fn read_text(alloc: Global, text: &[u8], line: u32) -> Result<Command, AllocError>
     requires text { length text.now ≤ 65536 }
     requires line { line ≤ 4000000000 }
+    ensures command { IfOk result (λ command. command ≡ command_of_text line text.now) }
+    ensures not_negative { IfOk result AddsUp }
+{
+    if opens_file(text) {
+        Ok(unbuilt(first_place(line, text)))
+    } else {
+        read_tokens(alloc, text, line)
+    }
+}
+
+fn read_tokens(alloc: Global, text: &[u8], line: u32) -> Result<Command, AllocError>
+    requires text { length text.now ≤ 65536 }
+    requires line { line ≤ 4000000000 }
     ensures command { IfOk result (λ command. command ≡ command_of_tokens text.now (tokens line text.now)) }
     ensures not_negative { IfOk result AddsUp }
 {
     match lex(alloc, text, line) {
-        Ok(tokens) => Ok(query_of(sum_numbers(alloc, text, tokens.as_slice())?)),
-        Err(LexFault::Bad(_)) => Ok(Command::Unbuilt),
+        Ok(tokens) => read_list(alloc, text, tokens.as_slice()),
+        Err(LexFault::Bad(refusal)) => Ok(Command::Refused(refusal)),
         Err(LexFault::Memory) => Err(AllocError),
     }
+}
+
+fn read_list(alloc: Global, text: &[u8], tokens: &[Token]) -> Result<Command, AllocError>
+    requires { All (IsWithin (length text.now)) tokens.now }
+    ensures command { IfOk result (λ command. command ≡ command_of_list text.now tokens.now) }
+    ensures not_negative { IfOk result AddsUp }
+{
+    let Some(&first) = tokens.first() else {
+        return Ok(Command::Empty);
+    };
+    if is_kind(TokenKind::End, first) {
+        return Ok(Command::Empty);
+    }
+    Ok(query_of(first.place, sum_numbers(alloc, text, tokens)?))
 }

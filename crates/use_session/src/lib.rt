@@ -3,6 +3,7 @@
 
 mod answer;
 mod command;
+mod file_word;
 mod session;
 mod sum;
 

@@ -92,5 +92,5 @@ fn answer(alloc: Global, cut: &Cut, out: &mut Vec<u8>) -> Result<Turn, AllocErro
     ensures turn { IfOk result (λ turn. turn ≡ (step start cut.now).turn) }
 {
     let command = read_command(alloc, cut)?;
-    carry_out(alloc, cut.first_line, &command, out)
+    carry_out(alloc, &command, out)
 }

@@ -7,7 +7,8 @@ use std::alloc::{AllocError, Global};
 use use_lists::Items;
 use use_text::{Token, TokenKind, number_of_digits};
 
-fn is_kind(kind: TokenKind, token: Token) -> bool
+/// Whether a token is of this kind.
+pub fn is_kind(kind: TokenKind, token: Token) -> bool
     ensures { result ≡ is_kind kind token }
 {
     token.kind == kind.number()

@@ -1,5 +1,5 @@
 -- Model files.
-use Rattle.std.specs.Prelude.{ℕ, Bool, true, false, ◌&&◌, ◌==◌, nat_lt, if◌then◌else◌, List, [], ◌∷◌, length, Option, Some, None, Ok, Err}
+use Rattle.std.specs.Prelude.{ℕ, Bool, false, ◌&&◌, ◌==◌, nat_lt, if◌then◌else◌, List, [], ◌∷◌, length, Option, Some, None, Ok, Err}
 use Rattle.use_text.specs.declared.token.Token.{Token}
 use Rattle.use_text.specs.declared.token.TokenKind.{TokenKind}
 use Rattle.use_text.specs.declared.token.TokenKind.TheVariants.{End, Name, Model}
@@ -7,6 +7,7 @@ use Rattle.use_text.specs.declared.refusal.Refusal.{Refusal}
 use Rattle.use_text.specs.declared.code.Family.TheVariants.{F, S}
 use Rattle.use_text.specs.Codes.{code_of}
 use Rattle.use_text.specs.Kinds.{number_of}
+use Rattle.use_text.specs.declared.place.Place.{Place}
 use Rattle.use_text.specs.Places.{place_at}
 use Rattle.use_text.specs.Refusals.{refusal_at}
 use Rattle.use_text.specs.Tokens.{Tokens, tokens}
@@ -23,14 +24,22 @@ abbrev pub is_empty_model : List Token → Bool
 is_empty_model (m ∷ n ∷ e ∷ []) = is_kind Model m && is_kind Name n && is_kind End e
 is_empty_model _ = false
 
-abbrev pub is_model : Tokens → Bool
-is_model (Ok ts) = is_empty_model ts
-is_model (Err r) = false
+-- a form that is not built yet, at this place
+abbrev pub unbuilt : Place → Option Refusal
+unbuilt place = Some (refusal_at (code_of S 0) place)
 
--- why a model file is refused, if it is: there is none, it is too long, or its form is not built yet
+-- the first token is the place of what is not built
+abbrev pub refusal_of_list : List Token → Option Refusal
+refusal_of_list [] = unbuilt (place_at 1 1)
+refusal_of_list (t ∷ ts) = if is_empty_model (t ∷ ts) then None else unbuilt t.place
+
+abbrev pub refusal_of_tokens : Tokens → Option Refusal
+refusal_of_tokens (Ok ts) = refusal_of_list ts
+refusal_of_tokens (Err r) = Some r
+
+-- why a model file is refused, if it is: there is none, it is too long, a rule of tokens is broken, or its form is not built yet
 abbrev pub model_refusal : Option (List ℕ) → Option Refusal
 model_refusal None = Some (refusal_at (code_of F 1) (place_at 0 0))
 model_refusal (Some text) =
     if nat_lt max_model (length text) then Some (refusal_at (code_of F 2) (place_at 0 0))
-    else (if is_model (tokens 1 text) then None
-    else Some (refusal_at (code_of S 0) (place_at 1 1)))
+    else refusal_of_tokens (tokens 1 text)

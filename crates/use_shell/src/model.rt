@@ -1,12 +1,10 @@
 ghost use Rattle.std.specs.Prelude.{◌≡◌, ◌≤◌, ◌==◌, IfOk, IfSome, IsErrOf, length};
 ghost use Rattle.std.specs.FinMap.{get};
 ghost use Rattle.use_io.specs.Causes.{Rose};
-ghost use Rattle.use_text.specs.Codes.{code_of};
 ghost use Rattle.use_text.specs.Places.{place_at};
 ghost use Rattle.use_text.specs.Refusals.{refusal_at};
 ghost use Rattle.use_text.specs.Tokens.{tokens};
-ghost use Rattle.use_text.specs.declared.code.Family.TheVariants.{S};
-ghost use Rattle.use_shell.specs.Models.{is_kind, is_empty_model, is_model, model_refusal};
+ghost use Rattle.use_shell.specs.Models.{is_kind, is_empty_model, unbuilt, refusal_of_list, refusal_of_tokens, model_refusal};
 
 use crate::stop::Stop;
 use std::alloc::Global;
@@ -32,16 +30,30 @@ fn is_empty_model(tokens: &[Token]) -> bool
         && is_kind(TokenKind::End, tokens[2])
 }
 
-/// Whether the text is a model of the form that is built.
-fn is_model(alloc: Global, text: &[u8]) -> Result<bool, Stop>
+/// Why a model of these tokens is refused, if it is.
+fn refusal_of_list(tokens: &[Token]) -> Option<Refusal>
+    ensures { result ≡ refusal_of_list tokens.now }
+{
+    let Some(first) = tokens.first() else {
+        return unbuilt(Place { line: 1, col: 1 });
+    };
+    if is_empty_model(tokens) {
+        None
+    } else {
+        unbuilt(first.place)
+    }
+}
+
+/// Why a model of this text is refused, if it is.
+fn refusal_of_text(alloc: Global, text: &[u8]) -> Result<Option<Refusal>, Stop>
     requires { length text.now ≤ 4194304 }
-    ensures model { IfOk result (λ is. is ≡ is_model (tokens 1 text.now)) }
+    ensures refusal { IfOk result (λ refusal. refusal ≡ refusal_of_tokens (tokens 1 text.now)) }
     ensures no_read { ¬ IsErrOf result Stop.Read }
     ensures no_write { ¬ IsErrOf result Stop.Write }
 {
     match lex(alloc, text, 1) {
-        Ok(tokens) => Ok(is_empty_model(tokens.as_slice())),
-        Err(LexFault::Bad(_)) => Ok(false),
+        Ok(tokens) => Ok(refusal_of_list(tokens.as_slice())),
+        Err(LexFault::Bad(refusal)) => Ok(Some(refusal)),
         Err(LexFault::Memory) => Err(Stop::Memory),
     }
 }
@@ -56,13 +68,14 @@ fn of_file(code: Code) -> Refusal
     }
 }
 
-fn unbuilt() -> Refusal
-    ensures { result ≡ refusal_at (code_of S 0) (place_at 1 1) }
+/// A form that is not built yet.
+fn unbuilt(place: Place) -> Option<Refusal>
+    ensures { result ≡ unbuilt place }
 {
-    Refusal {
+    Some(Refusal {
         code: Code::S0,
-        place: Place { line: 1, col: 1 },
-    }
+        place,
+    })
 }
 
 /// Why the model of this name is refused, if it is.
@@ -77,13 +90,7 @@ pub fn model_refusal<F: Shelf>(
     ensures no_write { ¬ IsErrOf result Stop.Write }
 {
     match shelf.fetch(alloc, name, MAX_MODEL) {
-        Ok(text) => {
-            if is_model(alloc, &text)? {
-                Ok(None)
-            } else {
-                Ok(Some(unbuilt()))
-            }
-        }
+        Ok(text) => refusal_of_text(alloc, &text),
         Err(ShelfFault::Missing) => Ok(Some(of_file(Code::F1))),
         Err(ShelfFault::TooLong) => Ok(Some(of_file(Code::F2))),
         Err(ShelfFault::Failed) => Err(Stop::Read),

@@ -55,7 +55,7 @@ fn answer_waiting<L: Ledger>(
     ensures bytes { OnOk result (out.new.items ≡ out.old.items ++ (play session.old.machine cutter.old.waiting).bytes) }
     ensures machine { OnOk result (session.new.machine ≡ (play session.old.machine cutter.old.waiting).machine) }
     ensures ready { OnOk result (IsReady session.new cutter.new) }
-    ensures rest { OnOk result ((cutter.new.rest ≡ cutter.old.rest) × (cutter.new.count ≡ cutter.old.count)) }
+    ensures rest { OnOk result ((cutter.new.rest ≡ cutter.old.rest) × (cutter.new.count ≡ cutter.old.count) × (cutter.new.block ≡ cutter.old.block)) }
     ensures memory { IsOkUnless result Stop.Memory }
     ensures steps { steps.new ≡ steps.old }
 {
@@ -135,7 +135,7 @@ fn play_last<K: Sink, L: Ledger>(
     steps: &mut Steps<L>,
 ) -> Result<(), Stop>
     requires ready { IsReady session.old cutter.old }
-    requires count { cutter.old.count + 1 ≤ 4000000000 }
+    requires count { cutter.old.count + 2 ≤ 4000000000 }
     ensures ok { OnOk result ((bytes : List ℕ) → StandsFor cutter.old bytes → (more : List CutOf) × (cuts bytes ≡ ended bytes ++ more) × Appends (K.written sink.old) (K.written sink.new) (play session.old.machine more).bytes) }
     ensures err { OnErr result ((bytes : List ℕ) → StandsFor cutter.old bytes → (more : List CutOf) × (cuts bytes ≡ ended bytes ++ more) × AppendsFront (K.written sink.old) (K.written sink.new) (play session.old.machine more).bytes) }
     ensures later { K.faults sink.old ≤ K.faults sink.new }

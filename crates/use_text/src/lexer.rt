@@ -69,8 +69,8 @@ fn behind(place: Place, b: u8) -> Place
     }
 }
 
-/// The place behind bytes.
-fn behind_all(place: Place, bytes: &[u8]) -> Place
+/// The place behind bytes that begin at a place.
+pub fn behind_all(place: Place, bytes: &[u8]) -> Place
     requires line { place.line + length bytes.now < 2 ^ 32 }
     requires col { place.col + length bytes.now < 2 ^ 32 }
     ensures place { result ≡ behind_all place bytes.now }

@@ -18,7 +18,7 @@ mod words;
 pub use code::{Code, Family, text_of};
 pub use cut::{Cut, Fate};
 pub use cutter::Cutter;
-pub use lexer::{LexFault, lex};
+pub use lexer::{LexFault, behind_all, lex};
 pub use piece::number_of_digits;
 pub use place::Place;
 pub use refusal::Refusal;

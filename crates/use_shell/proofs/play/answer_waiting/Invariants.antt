@@ -7,6 +7,7 @@ invariant-cuts g l = record {
   over : l.session.over ≡ false;
   rest : l.cutter.rest ≡ l.fn.cutter.rest;
   count : l.cutter.count ≡ l.fn.cutter.count;
+  block : l.cutter.block ≡ l.fn.cutter.block;
   bytes : l.out.items ++ (play l.session.machine l.cutter.waiting).bytes ≡ l.fn.out.items ++ (play l.fn.session.machine l.fn.cutter.waiting).bytes;
   machine : (play l.session.machine l.cutter.waiting).machine ≡ (play l.fn.session.machine l.fn.cutter.waiting).machine;
   steps : l.steps ≡ l.fn.steps;

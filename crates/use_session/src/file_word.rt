@@ -1,0 +1,51 @@
+ghost use Rattle.std.specs.Prelude.{◌≡◌, ◌≤◌, length};
+ghost use Rattle.use_text.specs.Pieces.{is_white, is_name_byte};
+ghost use Rattle.use_session.specs.Commands.{white_length, ends_word, opens_file, first_place};
+
+use use_text::{Place, behind_all};
+
+fn is_white(b: u8) -> bool
+    ensures { result ≡ is_white b }
+{
+    b == b' ' || b == b'\t' || b == b'\r' || b == b'\n'
+}
+
+fn is_name_byte(b: u8) -> bool
+    ensures { result ≡ is_name_byte b }
+{
+    b.is_ascii_lowercase() || b.is_ascii_uppercase() || b == b'_' || b.is_ascii_digit()
+}
+
+fn white_length(text: &[u8]) -> usize
+    ensures length { result ≡ white_length text.now }
+    ensures within { result ≤ length text.now }
+{
+    text.iter().take_while(|b| is_white(**b)).count()
+}
+
+fn ends_word(bytes: &[u8]) -> bool
+    ensures { result ≡ ends_word bytes.now }
+{
+    match bytes.first() {
+        Some(&b) => !is_name_byte(b),
+        None => true,
+    }
+}
+
+/// Whether the word `open` stands behind white space. Such a command names a file, and is not split
+/// into tokens.
+pub fn opens_file(text: &[u8]) -> bool
+    ensures { result ≡ opens_file text.now }
+{
+    let dark = &text[white_length(text)..];
+    dark.starts_with(b"open") && ends_word(&dark[4..])
+}
+
+/// The place of the first byte that is not white.
+pub fn first_place(line: u32, text: &[u8]) -> Place
+    requires text { length text.now ≤ 65536 }
+    requires line { line ≤ 4000000000 }
+    ensures { result ≡ first_place line text.now }
+{
+    behind_all(Place { line, col: 1 }, &text[..white_length(text)])
+}

@@ -1,0 +1,6 @@
+use Rattle.std.proofs.Common.{[], ◌∷◌}
+use Rattle.use_shell.proofs.MoveLemmas.{on_err, front_of_none}
+use Rattle.use_shell.proofs.play.play_last.Goals as goal
+
+pub returns-in_err-answer-clause-err : goal.returns-in_err-answer-clause-err
+returns-in_err-answer-clause-err g c = on_err c.from_residual.result _ (λ bytes stands. (c.in-Some.cut ∷ [], c.in-Some.ensures.last bytes stands, front_of_none _ _))
