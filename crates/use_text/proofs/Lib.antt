@@ -3,3 +3,7 @@ pub mod TokenLemmas
 pub mod LineLemmas
 pub mod CutLemmas
 pub mod PendingLemmas
+pub mod LexemeLemmas
+pub mod MarkLemmas
+pub mod FrontLemmas
+pub mod CoverLemmas

@@ -74,11 +74,11 @@ at_front b rest =
     let word = take_while is_name_byte rest in
     by_test (same_text word (codes "pre")) (Token AtPre (length word + 1)) (Bad (code_of L 2)) (length (b ∷ rest)) (λ h. (omega arith, omega (arith, within_take is_name_byte rest))) (λ h. tt)
 
-and_left : (x y : Bool) → x && y ≡ true → x ≡ true
+pub and_left : (x y : Bool) → x && y ≡ true → x ≡ true
 and_left true y h = refl
 and_left false y h = h
 
-and_right : (x y : Bool) → x && y ≡ true → y ≡ true
+pub and_right : (x y : Bool) → x && y ≡ true → y ≡ true
 and_right true y h = h
 and_right false y h = cc
 
@@ -87,7 +87,7 @@ same_front [] bs h = omega arith
 same_front (f ∷ front) [] h = cc
 same_front (f ∷ front) (b ∷ bs) h = omega (arith, same_front front bs (and_right (nat_eq f b) _ h))
 
-begins_within : (bs front : List ℕ) → begins bs front ≡ true → length front ≤ length bs
+pub begins_within : (bs front : List ℕ) → begins bs front ≡ true → length front ≤ length bs
 begins_within bs front h = same_front front bs h
 
 comment_front : (bs : List ℕ) → 2 ≤ length bs → IsFront (comment_piece (drop 2 bs)) (length bs)
@@ -103,7 +103,7 @@ symbol_front : (bs : List ℕ) → IsFront (symbol_piece bs) (length bs)
 unfolding symbol_piece
 symbol_front bs = rows_front bs SYMBOLS (λ t. t.now) refl
 
-or_right : (x y : Bool) → x || y ≡ false → y ≡ false
+pub or_right : (x y : Bool) → x || y ≡ false → y ≡ false
 or_right true y h = cc
 or_right false y h = h
 

@@ -7,3 +7,4 @@ pub mod Tokens
 pub mod Lines
 pub mod Cuts
 pub mod Pending
+pub mod Lexemes
