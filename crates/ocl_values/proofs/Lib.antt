@@ -1,3 +1,5 @@
 pub mod Exact
 pub mod Rows
 pub mod Texts
+pub mod CharacterLists
+pub mod Numerals

@@ -23,8 +23,8 @@ pub enum IntOp {
     Min,
 }
 
-// The integer, or invalid where there is none.
-fn checked(n: Option<i128>) -> Value
+/// The integer, or invalid where there is none.
+pub(crate) fn checked(n: Option<i128>) -> Value
     ensures { result ≡ checked n }
 {
     match n {

@@ -16,6 +16,6 @@ pub use logic::{and, implies, not, or, xor};
 pub use printing::{print, Names};
 pub use equality::{order, same};
 pub use shape::size;
-pub use string::StrOp;
+pub use string::{str_op, text_value, StrOp};
 pub use text::Text;
 pub use value::{EnumNo, Kind, LitNo, ObjNo, Value};
