@@ -3,3 +3,4 @@ pub mod Rows
 pub mod Texts
 pub mod CharacterLists
 pub mod Numerals
+pub mod Finding

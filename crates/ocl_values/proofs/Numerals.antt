@@ -7,6 +7,7 @@ use Rattle.std.specs.Str.Parse.{ParsesSigned}
 use Rattle.std.proofs.lemmas.Bool.Decides.{nat_tests}
 use Rattle.std.proofs.lemmas.Fmt.{IsAscii-from_digits}
 use Rattle.std.proofs.lemmas.Str.{encodes-chars, encodes-IsAscii, chars-IsAscii}
+use Rattle.std.proofs.lemmas.Str.Ascii.{IsAscii-cons}
 use Rattle.std.proofs.lemmas.Str.Parse.{IsNumeralModel, numerals_by_fold, parse_signed_minus, parse_signed_plain}
 use Rattle.ocl_values.specs.declared.value.Value.{Value}
 use Rattle.ocl_values.specs.declared.value.Value.TheVariants.{Int, Invalid}
@@ -106,12 +107,8 @@ writes (c ∷ cs) = if c == 45 then is_numeral cs else is_numeral (c ∷ cs)
 numeral_ascii : (cs : List ℕ) → is_numeral cs ≡ true → IsAscii cs
 numeral_ascii cs e = IsAscii-from_digits cs (own.to cs (numeral_parts cs e).0)
 
-ascii_cons : (c : ℕ) (cs : List ℕ) → c < 128 → IsAscii cs → IsAscii (c ∷ cs)
-ascii_cons c cs h all zero = h
-ascii_cons c cs h all (suc i) = all i
-
 one_ascii : (c : ℕ) (cs : List ℕ) (b : Bool) → (c == 45) ≡ b → (if b then is_numeral cs else is_numeral (c ∷ cs)) ≡ true → IsAscii (c ∷ cs)
-one_ascii c cs true is e = ascii_cons c cs (grind (arith, nat_tests)) (numeral_ascii cs e)
+one_ascii c cs true is e = IsAscii-cons c cs (grind (arith, nat_tests)) (numeral_ascii cs e)
 one_ascii c cs false is e = numeral_ascii (c ∷ cs) e
 
 writes_ascii : (xs : List ℕ) → writes xs ≡ true → IsAscii xs
