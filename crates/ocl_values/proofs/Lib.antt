@@ -4,3 +4,4 @@ pub mod Texts
 pub mod CharacterLists
 pub mod Numerals
 pub mod Finding
+pub mod WellMade

@@ -4,6 +4,7 @@ ghost use Rattle.std.specs.Char.{to_ascii_lowercase, to_ascii_uppercase};
 ghost use Rattle.ocl_values.specs.Strings.{index_of, integer_of, of_text, str_op_value, string_of, substring, to_string_value};
 ghost use Rattle.ocl_values.specs.declared.value.Kind.TheVariants.{Sequence};
 ghost use Rattle.ocl_values.specs.declared.value.Value.TheVariants.{Coll, Int, Str};
+ghost use Rattle.ocl_values.specs.Shape.{IsWellMade};
 
 use crate::integer::checked;
 use crate::printing::bool_text;
@@ -185,7 +186,8 @@ fn of_text(alloc: Global, op: StrOp, s: &str, args: &[Value]) -> Result<Value, A
 /// An operation of String, of a source and its arguments. A source or argument that is null,
 /// invalid or of another kind makes the result invalid, and so does another number of arguments.
 pub fn str_op(alloc: Global, op: StrOp, source: &Value, args: &[Value]) -> Result<Value, AllocError>
-    ensures { IfOk result (λ v. v ≡ str_op_value op source.now args.now) }
+    ensures value { IfOk result (λ v. v ≡ str_op_value op source.now args.now) }
+    ensures well_made { IfOk result IsWellMade }
 {
     match source {
         Value::Str(text) => of_text(alloc, op, text.as_str(), args),
@@ -195,7 +197,8 @@ pub fn str_op(alloc: Global, op: StrOp, source: &Value, args: &[Value]) -> Resul
 
 /// `toString()` of an integer or a truth value; invalid of any other value.
 pub fn text_value(alloc: Global, v: &Value) -> Result<Value, AllocError>
-    ensures { IfOk result (λ text. text ≡ to_string_value v.now) }
+    ensures value { IfOk result (λ text. text ≡ to_string_value v.now) }
+    ensures well_made { IfOk result IsWellMade }
 {
     match v {
         Value::Int(n) => Ok(Value::Str(Text::from_string(format!(in alloc; "{n}")?))),
