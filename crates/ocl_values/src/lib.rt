@@ -19,3 +19,5 @@ pub use shape::size;
 pub use string::{str_op, text_value, StrOp};
 pub use text::Text;
 pub use value::{EnumNo, Kind, LitNo, ObjNo, Value};
+#[cfg(test)]
+mod tests;
