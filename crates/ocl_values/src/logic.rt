@@ -127,7 +127,7 @@ fn implication(a: Truth, b: Truth) -> Value
 /// `a implies b`, which is `(not a) or b`.
 pub fn implies(a: &Value, b: &Value) -> Value
     ensures value { result ≡ entry implies_table a.now b.now }
-    ensures by_or { result ≡ at or_table (truth_of (in_row not_row (truth_of a.now))) (truth_of b.now) }
+    ensures by_or { result ≡ entry or_table (in_row not_row (truth_of a.now)) b.now }
     ensures well_made { IsWellMade result }
 {
     implication(truth_of(a), truth_of(b))
