@@ -91,6 +91,8 @@ fn disjunction(a: Truth, b: Truth) -> Value
 /// `a or b`.
 pub fn or(a: &Value, b: &Value) -> Value
     ensures value { result ≡ entry or_table a.now b.now }
+    ensures dual { in_row not_row (truth_of result)
+        ≡ entry and_table (in_row not_row (truth_of a.now)) (in_row not_row (truth_of b.now)) }
     ensures well_made { IsWellMade result }
 {
     disjunction(truth_of(a), truth_of(b))
