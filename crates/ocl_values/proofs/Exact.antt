@@ -187,6 +187,6 @@ equal_exact r u v e = (λ h. value_exact u v (sym e ∙ h), λ h. e ∙ ap (valu
 -- the test of equality tells one value from every other
 pub same_exact : (b : _) (u v : Value) → b ≡ is_eq (value_cmp u v) → is_invalid u ≡ false → (V.Bool b ≡ V.Bool true) ↔ ((u ≡ v) × (is_invalid u ≡ false))
 same_exact b u v e valid = (
-    (λ h. let is : b ≡ true = cc in (value_exact u v (equal_is (value_cmp u v) (sym e ∙ is)), valid)),
-    (λ h. ap V.Bool (e ∙ ap is_eq ((equal_exact (value_cmp u v) u v refl).1 h.0))),
+  (λ h. let is : b ≡ true = cc in (value_exact u v (equal_is (value_cmp u v) (sym e ∙ is)), valid)),
+  (λ h. ap V.Bool (e ∙ ap is_eq ((equal_exact (value_cmp u v) u v refl).1 h.0))),
 )

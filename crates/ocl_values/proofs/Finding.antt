@@ -1,5 +1,5 @@
 -- Where a text stands in another, by bytes and by characters.
-use Rattle.std.proofs.Common.{◌≡◌, ◌≢◌, ℕ, zero, suc, ◌+◌, ◌<◌, ◌≤◌, List, [], ◌∷◌, ◌++◌, length, take, drop, nat_eq, ap, sym, refl, ◌∙◌, subst, Bool, true, false, if◌then◌else◌, append_assoc, arith}
+use Rattle.std.proofs.Common.{◌≡◌, ◌≢◌, ℕ, zero, suc, ◌+◌, ◌<◌, ◌≤◌, List, [], ◌∷◌, ◌++◌, length, take, drop, nat_eq, ap, sym, refl, ◌∙◌, Bool, true, false, if◌then◌else◌, append_assoc, arith}
 use Rattle.std.specs.Cmp.Lexicographic.{pointwise, same_text}
 use Rattle.std.specs.List.{starts_with}
 use Rattle.std.specs.Str.{chars, encode_utf8_all, IsUtf8, IsCharBoundary}
@@ -49,8 +49,8 @@ index_none ts (c ∷ cs) never =
 lacking : (s t fs xs : List ℕ) → IsUtf8 t → s ≡ encode_utf8_all (fs ++ xs) → LacksTextAt t s (length (encode_utf8_all fs)) → starts_with nat_eq xs (chars t) ≡ false
 lacking s t fs xs v whole lacks = not_begun (chars t) xs (λ rs e.
     lacks (encode_utf8_all rs) (
-      ap (drop (length (encode_utf8_all fs))) (whole ∙ encodes-append fs xs) ∙ drop-append_seam (encode_utf8_all fs) (encode_utf8_all xs)
-      ∙ ap encode_utf8_all e ∙ encodes-append (chars t) rs ∙ ap (λ bytes. bytes ++ encode_utf8_all rs) (encodes-chars t v)))
+    ap (drop (length (encode_utf8_all fs))) (whole ∙ encodes-append fs xs) ∙ drop-append_seam (encode_utf8_all fs) (encode_utf8_all xs)
+    ∙ ap encode_utf8_all e ∙ encodes-append (chars t) rs ∙ ap (λ bytes. bytes ++ encode_utf8_all rs) (encodes-chars t v)))
 
 module _ (s t : List ℕ) (u : IsUtf8 s) (v : IsUtf8 t) where
   -- the place of the first occurrence
@@ -59,18 +59,18 @@ module _ (s t : List ℕ) (u : IsUtf8 s) (v : IsUtf8 t) where
       let front = take at s in
       let back = drop at s in
       let whole : chars s ≡ chars front ++ chars back =
-        ap chars (sym (take-append-drop at s)) ∙ chars-append front back (IsUtf8-take s at u cut) in
+      ap chars (sym (take-append-drop at s)) ∙ chars-append front back (IsUtf8-take s at u cut) in
       let starts : starts_with nat_eq (chars back) (chars t) ≡ true =
-        ap (λ xs. starts_with nat_eq xs (chars t)) (ap chars here.split ∙ chars-append t (drop j s) v) ∙ begun (chars t) (chars (drop j s)) in
+      ap (λ xs. starts_with nat_eq xs (chars t)) (ap chars here.split ∙ chars-append t (drop j s) v) ∙ begun (chars t) (chars (drop j s)) in
       sym (ap (index_of (chars t)) whole ∙ index_first (chars t) (chars front) (chars back) starts (λ fs gs e some.
-        let bytes : s ≡ encode_utf8_all (fs ++ (gs ++ chars back)) =
-          sym (encodes-chars s u) ∙ ap encode_utf8_all (whole ∙ ap (λ xs. xs ++ chars back) e ∙ append_assoc fs gs (chars back)) in
-        let parts : front ≡ encode_utf8_all fs ++ encode_utf8_all gs =
-          sym (encodes-chars front (IsUtf8-take s at u cut)) ∙ ap encode_utf8_all e ∙ encodes-append fs gs in
-        let long = length-le-encodes gs in
-        let lengths : length front ≡ length (encode_utf8_all fs) + length (encode_utf8_all gs) = ap length parts ∙ length-append (encode_utf8_all fs) (encode_utf8_all gs) in
-        let size : length front ≡ at = length-take-le at s cut.0 in
-        lacking s t fs (gs ++ chars back) v bytes (before (length (encode_utf8_all fs)) (omega (arith, long, lengths, size, some)))))
+      let bytes : s ≡ encode_utf8_all (fs ++ (gs ++ chars back)) =
+      sym (encodes-chars s u) ∙ ap encode_utf8_all (whole ∙ ap (λ xs. xs ++ chars back) e ∙ append_assoc fs gs (chars back)) in
+      let parts : front ≡ encode_utf8_all fs ++ encode_utf8_all gs =
+      sym (encodes-chars front (IsUtf8-take s at u cut)) ∙ ap encode_utf8_all e ∙ encodes-append fs gs in
+      let long = length-le-encodes gs in
+      let lengths : length front ≡ length (encode_utf8_all fs) + length (encode_utf8_all gs) = ap length parts ∙ length-append (encode_utf8_all fs) (encode_utf8_all gs) in
+      let size : length front ≡ at = length-take-le at s cut.0 in
+      lacking s t fs (gs ++ chars back) v bytes (before (length (encode_utf8_all fs)) (omega (arith, long, lengths, size, some)))))
 
   -- no place where there is no occurrence
   pub found_nowhere : ((i : ℕ) → i ≤ length s → LacksTextAt t s i) → 0 ≡ index_of (chars t) (chars s)

@@ -1,15 +1,14 @@
 -- The integer that a text writes, by its bytes and by its characters.
-use Rattle.std.proofs.Common.{◌≡◌, ◌≢◌, ◌==◌, ℕ, zero, suc, ◌+◌, ◌-◌, ◌*◌, ◌^◌, ◌<◌, ◌≤◌, ⊎_elim, List, [], ◌∷◌, ◌++◌, length, get_or, drop, fold, ap, sym, refl, ◌∙◌, subst, Bool, true, false, true≢false, not, ◌&&◌, nat_eq, if◌then◌else◌, ℤ, pos, negsuc, neg_ℤ, Result, Ok, Err, arith, rules}
+use Rattle.std.proofs.Common.{◌≡◌, ◌≢◌, ◌==◌, ℕ, zero, suc, ◌+◌, ◌-◌, ◌*◌, ◌^◌, ◌<◌, ◌≤◌, List, [], ◌∷◌, length, get_or, fold, ap, sym, refl, ◌∙◌, subst, Bool, true, false, true≢false, not, ◌&&◌, nat_eq, if◌then◌else◌, ℤ, pos, neg_ℤ, Result, Ok, Err, arith, rules}
 use Rattle.std.specs.Int.{w128}
 use Rattle.std.specs.Result.{OkIff, result_ok}
-use Rattle.std.specs.Str.{all_ascii_digits, chars, encode_utf8_all, IsUtf8, IsAscii}
+use Rattle.std.specs.Str.{all_ascii_digits, chars, IsUtf8, IsAscii}
 use Rattle.std.specs.Str.Parse.{ParsesSigned}
 use Rattle.std.proofs.lemmas.Bool.Decides.{nat_tests}
 use Rattle.std.proofs.lemmas.Fmt.{IsAscii-from_digits}
 use Rattle.std.proofs.lemmas.Str.{encodes-chars, encodes-IsAscii, chars-IsAscii}
 use Rattle.std.proofs.lemmas.Str.Ascii.{IsAscii-cons}
 use Rattle.std.proofs.lemmas.Str.Parse.{IsNumeralModel, numerals_by_fold, parse_signed_minus, parse_signed_plain}
-use Rattle.ocl_values.specs.declared.value.Value.{Value}
 use Rattle.ocl_values.specs.declared.value.Value.TheVariants.{Int, Invalid}
 use Rattle.ocl_values.specs.Integers.{checked, in_range, int_value}
 use Rattle.ocl_values.specs.Strings.{is_numeral, number_of, integer_of}

@@ -1,5 +1,5 @@
 -- A row of values, read as the list of them.
-use Rattle.std.proofs.Common.{◌≡◌, ℕ, ◌+◌, max, List, [], ◌∷◌, ap, refl, ◌∙◌, false, sym, subst}
+use Rattle.std.proofs.Common.{◌≡◌, ◌+◌, max, List, ap, refl, ◌∙◌, false, sym, subst}
 use Rattle.std.specs.List.{AllByRecursion}
 use Rattle.ocl_values.specs.declared.value.Kind.{Kind}
 use Rattle.ocl_values.specs.declared.value.Value.{Value, Row_of-Value, end_of-Value, more_of-Value, items-the_row-Value, items_hidden-the_row-Value-0}

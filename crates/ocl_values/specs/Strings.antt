@@ -1,7 +1,7 @@
 -- The operations of String, over the list of its characters.
-use Rattle.std.specs.Prelude.{ℕ, zero, suc, ◌+◌, ◌-◌, ◌*◌, nat_eq, nat_le, ◌==◌, Bool, true, false, not, ◌&&◌, if◌then◌else◌, Option, Some, None, List, [], ◌∷◌, ◌++◌, map, length, take, drop, fold, ℤ, pos, negsuc, neg_ℤ, codes}
+use Rattle.std.specs.Prelude.{ℕ, zero, suc, ◌+◌, ◌-◌, ◌*◌, nat_eq, nat_le, ◌==◌, Bool, true, false, not, ◌&&◌, if◌then◌else◌, Option, Some, None, List, [], ◌∷◌, ◌++◌, map, length, take, drop, fold, ℤ, pos, neg_ℤ, codes}
 use Rattle.std.specs.Str.{all_ascii_digits, chars, encode_utf8_all}
-use Rattle.std.specs.Char.{encode_utf8, to_ascii_uppercase, to_ascii_lowercase}
+use Rattle.std.specs.Char.{to_ascii_uppercase, to_ascii_lowercase}
 use Rattle.std.specs.List.{starts_with}
 use Rattle.std.specs.Fmt.{signed_decimal}
 use Rattle.std.specs.declared.cmp.Ordering.{Ordering}

@@ -18,13 +18,7 @@ fn truth_of(v: &Value) -> Truth
     ensures { result ≡ truth_of v.now }
 {
     match v {
-        Value::Bool(b) => {
-            if *b {
-                Truth::True
-            } else {
-                Truth::False
-            }
-        }
+        Value::Bool(b) => { if *b { Truth::True } else { Truth::False } }
         Value::Null => Truth::Null,
         _ => Truth::Invalid,
     }

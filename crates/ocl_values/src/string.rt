@@ -162,7 +162,13 @@ fn with_integer(alloc: Global, op: StrOp, s: &str, i: i128) -> Result<Value, All
     }
 }
 
-fn with_integers(alloc: Global, op: StrOp, s: &str, first: i128, last: i128) -> Result<Value, AllocError>
+fn with_integers(
+    alloc: Global,
+    op: StrOp,
+    s: &str,
+    first: i128,
+    last: i128,
+) -> Result<Value, AllocError>
     ensures { IfOk result (λ v. v ≡ of_text op s.now (Int first ∷ Int last ∷ [])) }
 {
     match op {

@@ -71,6 +71,7 @@ fn shown(alloc: Global, value: &Value) -> Result<Vec<u8>, AllocError> {
 }
 
 const LEAST: i128 = i128::MIN;
+
 const GREATEST: i128 = i128::MAX;
 
 #[test]
@@ -105,17 +106,26 @@ fn integer_operations(rt: HostRuntime) -> Result<(), Fail> {
         (IntOp::Abs, LEAST, 0, "invalid"),
         (IntOp::Max, -1, 1, "1"),
         (IntOp::Min, -1, 1, "-1"),
-        (IntOp::Add, LEAST, 0, "-170141183460469231731687303715884105728"),
-        (IntOp::Sub, GREATEST, 0, "170141183460469231731687303715884105727"),
+        (
+            IntOp::Add,
+            LEAST,
+            0,
+            "-170141183460469231731687303715884105728",
+        ),
+        (
+            IntOp::Sub,
+            GREATEST,
+            0,
+            "170141183460469231731687303715884105727",
+        ),
     ] {
         let value = int_op(op, &Value::Int(a), &Value::Int(b));
-        assert_eq!(rt; shown(alloc, &value)?.as_slice(), want.as_bytes(), "at {op:?} {a} {b}");
+        assert_eq!(rt;
+            shown(alloc, &value)?.as_slice(),
+            want.as_bytes(),
+            "at {op:?} {a} {b}"
+        );
     }
-    Ok(())
-}
-
-#[test]
-fn integer_operations_on_no_integer(rt: HostRuntime) {
     let one = Value::Int(1);
     for op in [
         IntOp::Add,
@@ -130,16 +140,38 @@ fn integer_operations_on_no_integer(rt: HostRuntime) {
         IntOp::Max,
         IntOp::Min,
     ] {
-        assert!(rt; int_op(op, &Value::Null, &one) == Value::Invalid, "at null {op:?}");
-        assert!(rt; int_op(op, &one, &Value::Null) == Value::Invalid, "at {op:?} null");
-        assert!(rt; int_op(op, &Value::Invalid, &one) == Value::Invalid, "at invalid {op:?}");
-        assert!(rt; int_op(op, &one, &Value::Invalid) == Value::Invalid, "at {op:?} invalid");
+        assert!(rt;
+            int_op(op, &Value::Null, &one) == Value::Invalid,
+            "at null {op:?}"
+        );
+        assert!(rt;
+            int_op(op, &one, &Value::Null) == Value::Invalid,
+            "at {op:?} null"
+        );
+        assert!(rt;
+            int_op(op, &Value::Invalid, &one) == Value::Invalid,
+            "at invalid {op:?}"
+        );
+        assert!(rt;
+            int_op(op, &one, &Value::Invalid) == Value::Invalid,
+            "at {op:?} invalid"
+        );
     }
     for op in [IntOp::Neg, IntOp::Abs] {
-        assert!(rt; int_op(op, &Value::Null, &one) == Value::Invalid, "at {op:?} null");
-        assert!(rt; int_op(op, &Value::Invalid, &one) == Value::Invalid, "at {op:?} invalid");
-        assert!(rt; int_op(op, &one, &Value::Null) != Value::Invalid, "at {op:?}");
+        assert!(rt;
+            int_op(op, &Value::Null, &one) == Value::Invalid,
+            "at {op:?} null"
+        );
+        assert!(rt;
+            int_op(op, &Value::Invalid, &one) == Value::Invalid,
+            "at {op:?} invalid"
+        );
+        assert!(rt;
+            int_op(op, &one, &Value::Null) != Value::Invalid,
+            "at {op:?}"
+        );
     }
+    Ok(())
 }
 
 fn string_result(
@@ -162,88 +194,147 @@ fn string_result(
 }
 
 #[test]
-fn places_of_strings(rt: HostRuntime) -> Result<(), Fail> {
+fn string_operations(rt: HostRuntime) -> Result<(), Fail> {
     use Sketch::{Int, Invalid, Null, Text};
     for (op, source, first, second, want) in [
-        (StrOp::Size, "", None, None, "0"),
-        (StrOp::Size, "nä€𝄞", None, None, "4"),
-        (StrOp::Size, "a", Some(Null), None, "invalid"),
-        (StrOp::Substring, "nä€𝄞", Some(Int(2)), Some(Int(3)), "'ä€'"),
-        (StrOp::Substring, "abc", Some(Int(1)), Some(Int(3)), "'abc'"),
-        (StrOp::Substring, "abc", Some(Int(3)), Some(Int(3)), "'c'"),
-        (StrOp::Substring, "abc", Some(Int(0)), Some(Int(3)), "invalid"),
-        (StrOp::Substring, "abc", Some(Int(-1)), Some(Int(3)), "invalid"),
-        (StrOp::Substring, "abc", Some(Int(2)), Some(Int(1)), "invalid"),
-        (StrOp::Substring, "abc", Some(Int(2)), Some(Int(4)), "invalid"),
-        (StrOp::Substring, "", Some(Int(1)), Some(Int(0)), "invalid"),
-        (StrOp::Substring, "abc", Some(Null), Some(Int(1)), "invalid"),
-        (StrOp::Substring, "abc", Some(Int(1)), Some(Invalid), "invalid"),
-        (StrOp::At, "nä€", Some(Int(3)), None, "'€'"),
-        (StrOp::At, "abc", Some(Int(0)), None, "invalid"),
-        (StrOp::At, "abc", Some(Int(4)), None, "invalid"),
-        (StrOp::At, "abc", Some(Null), None, "invalid"),
-        (StrOp::IndexOf, "nä€ä", Some(Text("ä")), None, "2"),
-        (StrOp::IndexOf, "nä€ä", Some(Text("€ä")), None, "3"),
-        (StrOp::IndexOf, "abc", Some(Text("x")), None, "0"),
-        (StrOp::IndexOf, "abc", Some(Text("")), None, "1"),
-        (StrOp::IndexOf, "", Some(Text("")), None, "1"),
-        (StrOp::IndexOf, "", Some(Text("a")), None, "0"),
-        (StrOp::IndexOf, "a", Some(Null), None, "invalid"),
+        (StrOp::Size, Text(""), None, None, "0"),
+        (StrOp::Size, Text("nä€𝄞"), None, None, "4"),
+        (StrOp::Size, Text("a"), Some(Null), None, "invalid"),
+        (
+            StrOp::Substring,
+            Text("nä€𝄞"),
+            Some(Int(2)),
+            Some(Int(3)),
+            "'ä€'",
+        ),
+        (
+            StrOp::Substring,
+            Text("abc"),
+            Some(Int(1)),
+            Some(Int(3)),
+            "'abc'",
+        ),
+        (
+            StrOp::Substring,
+            Text("abc"),
+            Some(Int(3)),
+            Some(Int(3)),
+            "'c'",
+        ),
+        (
+            StrOp::Substring,
+            Text("abc"),
+            Some(Int(0)),
+            Some(Int(3)),
+            "invalid",
+        ),
+        (
+            StrOp::Substring,
+            Text("abc"),
+            Some(Int(-1)),
+            Some(Int(3)),
+            "invalid",
+        ),
+        (
+            StrOp::Substring,
+            Text("abc"),
+            Some(Int(2)),
+            Some(Int(1)),
+            "invalid",
+        ),
+        (
+            StrOp::Substring,
+            Text("abc"),
+            Some(Int(2)),
+            Some(Int(4)),
+            "invalid",
+        ),
+        (
+            StrOp::Substring,
+            Text(""),
+            Some(Int(1)),
+            Some(Int(0)),
+            "invalid",
+        ),
+        (
+            StrOp::Substring,
+            Text("abc"),
+            Some(Null),
+            Some(Int(1)),
+            "invalid",
+        ),
+        (
+            StrOp::Substring,
+            Text("abc"),
+            Some(Int(1)),
+            Some(Invalid),
+            "invalid",
+        ),
+        (StrOp::At, Text("nä€"), Some(Int(3)), None, "'€'"),
+        (StrOp::At, Text("abc"), Some(Int(0)), None, "invalid"),
+        (StrOp::At, Text("abc"), Some(Int(4)), None, "invalid"),
+        (StrOp::At, Text("abc"), Some(Null), None, "invalid"),
+        (StrOp::IndexOf, Text("nä€ä"), Some(Text("ä")), None, "2"),
+        (StrOp::IndexOf, Text("nä€ä"), Some(Text("€ä")), None, "3"),
+        (StrOp::IndexOf, Text("abc"), Some(Text("x")), None, "0"),
+        (StrOp::IndexOf, Text("abc"), Some(Text("")), None, "1"),
+        (StrOp::IndexOf, Text(""), Some(Text("")), None, "1"),
+        (StrOp::IndexOf, Text(""), Some(Text("a")), None, "0"),
+        (StrOp::IndexOf, Text("a"), Some(Null), None, "invalid"),
+        (StrOp::Concat, Text("nä"), Some(Text("€")), None, "'nä€'"),
+        (StrOp::Concat, Text("a"), Some(Null), None, "invalid"),
+        (StrOp::Concat, Text("a"), Some(Invalid), None, "invalid"),
+        (StrOp::Concat, Text("a"), Some(Int(1)), None, "invalid"),
+        (StrOp::Upper, Text("straße z9"), None, None, "'STRAßE Z9'"),
+        (StrOp::Lower, Text("ÄRA Z9"), None, None, "'Ära z9'"),
+        (
+            StrOp::Characters,
+            Text("nä"),
+            None,
+            None,
+            "Sequence{'n','ä'}",
+        ),
+        (StrOp::Characters, Text(""), None, None, "Sequence{}"),
+        (StrOp::Lt, Text("a"), Some(Text("ab")), None, "true"),
+        (StrOp::Lt, Text("z"), Some(Text("ä")), None, "true"),
+        (StrOp::Le, Text("a"), Some(Text("a")), None, "true"),
+        (StrOp::Gt, Text("b"), Some(Text("ab")), None, "true"),
+        (StrOp::Gt, Text("a"), Some(Text("a")), None, "false"),
+        (StrOp::Ge, Text("a"), Some(Text("b")), None, "false"),
+        (StrOp::Ge, Text("a"), Some(Null), None, "invalid"),
+        (StrOp::Lt, Text("a"), Some(Invalid), None, "invalid"),
+        (StrOp::ToInteger, Text("-12"), None, None, "-12"),
+        (StrOp::ToInteger, Text("007"), None, None, "7"),
+        (StrOp::ToInteger, Text(""), None, None, "invalid"),
+        (StrOp::ToInteger, Text("-"), None, None, "invalid"),
+        (StrOp::ToInteger, Text("+1"), None, None, "invalid"),
+        (StrOp::ToInteger, Text("-+1"), None, None, "invalid"),
+        (StrOp::ToInteger, Text("1 "), None, None, "invalid"),
+        (StrOp::ToInteger, Text("١"), None, None, "invalid"),
+        (
+            StrOp::ToInteger,
+            Text("170141183460469231731687303715884105728"),
+            None,
+            None,
+            "invalid",
+        ),
+        (
+            StrOp::ToInteger,
+            Text("-170141183460469231731687303715884105729"),
+            None,
+            None,
+            "invalid",
+        ),
+        (StrOp::Size, Null, None, None, "invalid"),
+        (StrOp::Concat, Invalid, Some(Text("a")), None, "invalid"),
+        (StrOp::IndexOf, Int(1), Some(Text("a")), None, "invalid"),
     ] {
-        let given = string_result(rt.alloc(), op, Text(source), first, second)?;
-        assert_eq!(rt; given.as_slice(), want.as_bytes(), "at {op:?} of {source}");
-    }
-    Ok(())
-}
-
-#[test]
-fn strings_from_strings(rt: HostRuntime) -> Result<(), Fail> {
-    use Sketch::{Int, Invalid, Null, Text};
-    for (op, source, first, second, want) in [
-        (StrOp::Concat, "nä", Some(Text("€")), None, "'nä€'"),
-        (StrOp::Concat, "a", Some(Null), None, "invalid"),
-        (StrOp::Concat, "a", Some(Invalid), None, "invalid"),
-        (StrOp::Concat, "a", Some(Int(1)), None, "invalid"),
-        (StrOp::Upper, "straße z9", None, None, "'STRAßE Z9'"),
-        (StrOp::Lower, "ÄRA Z9", None, None, "'Ära z9'"),
-        (StrOp::Characters, "nä", None, None, "Sequence{'n','ä'}"),
-        (StrOp::Characters, "", None, None, "Sequence{}"),
-        (StrOp::Lt, "a", Some(Text("ab")), None, "true"),
-        (StrOp::Lt, "z", Some(Text("ä")), None, "true"),
-        (StrOp::Le, "a", Some(Text("a")), None, "true"),
-        (StrOp::Gt, "b", Some(Text("ab")), None, "true"),
-        (StrOp::Gt, "a", Some(Text("a")), None, "false"),
-        (StrOp::Ge, "a", Some(Text("b")), None, "false"),
-        (StrOp::Ge, "a", Some(Null), None, "invalid"),
-        (StrOp::Lt, "a", Some(Invalid), None, "invalid"),
-    ] {
-        let given = string_result(rt.alloc(), op, Text(source), first, second)?;
-        assert_eq!(rt; given.as_slice(), want.as_bytes(), "at {op:?} of {source}");
-    }
-    for source in [Null, Invalid, Int(1)] {
-        let given = string_result(rt.alloc(), StrOp::Size, source, None, None)?;
-        assert_eq!(rt; given.as_slice(), b"invalid".as_slice());
-    }
-    Ok(())
-}
-
-#[test]
-fn integers_from_strings(rt: HostRuntime) -> Result<(), Fail> {
-    use Sketch::{Int, Invalid, Null, Text};
-    for (op, source, first, second, want) in [
-        (StrOp::ToInteger, "-12", None, None, "-12"),
-        (StrOp::ToInteger, "007", None, None, "7"),
-        (StrOp::ToInteger, "", None, None, "invalid"),
-        (StrOp::ToInteger, "-", None, None, "invalid"),
-        (StrOp::ToInteger, "+1", None, None, "invalid"),
-        (StrOp::ToInteger, "-+1", None, None, "invalid"),
-        (StrOp::ToInteger, "1 ", None, None, "invalid"),
-        (StrOp::ToInteger, "١", None, None, "invalid"),
-        (StrOp::ToInteger, "170141183460469231731687303715884105728", None, None, "invalid"),
-        (StrOp::ToInteger, "-170141183460469231731687303715884105729", None, None, "invalid"),
-    ] {
-        let given = string_result(rt.alloc(), op, Text(source), first, second)?;
-        assert_eq!(rt; given.as_slice(), want.as_bytes(), "at {op:?} of {source}");
+        let given = string_result(rt.alloc(), op, source, first, second)?;
+        assert_eq!(rt;
+            given.as_slice(),
+            want.as_bytes(),
+            "at {op:?} of {source:?}"
+        );
     }
     Ok(())
 }
@@ -299,55 +390,39 @@ fn truth_tables(rt: HostRuntime) -> Result<(), Fail> {
 #[test]
 fn values_are_printed_and_copied(rt: HostRuntime) -> Result<(), Fail> {
     use Sketch::{Bool, Empty, Enum, Int, Invalid, Null, Obj, One, Text, Two};
-    for (sketch, want) in [
-        (Null, "null"),
-        (Invalid, "invalid"),
-        (Bool(true), "true"),
-        (Bool(false), "false"),
-        (Int(-120), "-120"),
-        (Text(""), "''"),
-        (Text("it's\\a\tb\nä"), "'it\\'s\\\\a\\tb\\nä'"),
-        (Enum(0, 0), "Grade::junior"),
-        (Enum(0, 7), "invalid"),
-        (Obj(1), "ada"),
-        (Obj(12), "destroyed(12)"),
-        (Empty(Kind::Set), "Set{}"),
-        (One(Kind::OrderedSet, 2), "OrderedSet{2}"),
-        (Two(Kind::Bag, 1, 1), "Bag{1,1}"),
-        (Two(Kind::Sequence, 2, 1), "Sequence{2,1}"),
+    for (sketch, text, bytes) in [
+        (Null, "null", 1),
+        (Invalid, "invalid", 1),
+        (Bool(true), "true", 1),
+        (Bool(false), "false", 1),
+        (Int(-120), "-120", 1),
+        (Text(""), "''", 1),
+        (Text("it's\\a\tb\nä"), "'it\\'s\\\\a\\tb\\nä'", 12),
+        (Enum(0, 0), "Grade::junior", 1),
+        (Enum(0, 7), "invalid", 1),
+        (Obj(1), "ada", 1),
+        (Obj(12), "destroyed(12)", 1),
+        (Empty(Kind::Set), "Set{}", 1),
+        (One(Kind::OrderedSet, 2), "OrderedSet{2}", 2),
+        (Two(Kind::Bag, 1, 1), "Bag{1,1}", 3),
+        (Two(Kind::Sequence, 2, 1), "Sequence{2,1}", 3),
     ] {
         let value = value_of(rt.alloc(), sketch)?;
-        assert_eq!(rt; shown(rt.alloc(), &value)?.as_slice(), want.as_bytes());
-        let copy = value.try_copy(rt.alloc())?;
-        assert!(rt; copy == value);
+        assert_eq!(rt; shown(rt.alloc(), &value)?.as_slice(), text.as_bytes());
+        assert_eq!(rt; size(&value), bytes);
+        let mut items = Vec::new(rt.alloc());
+        items.push(value.try_copy(rt.alloc())?)?;
+        items.push(Value::Null)?;
+        let nested = Value::Coll(Kind::Sequence, Items::from_vec(items));
+        let nested_text = format!(in rt.alloc(); "Sequence{{{text},null}}")?;
+        assert_eq!(rt;
+            shown(rt.alloc(), &nested)?.as_slice(),
+            nested_text.as_bytes()
+        );
     }
-    Ok(())
-}
-
-#[test]
-fn nested_collections_are_printed(rt: HostRuntime) -> Result<(), Fail> {
-    let mut nested = Vec::new(rt.alloc());
-    nested.push(collection(rt.alloc(), Kind::Set, &[1, 2])?)?;
-    nested.push(Value::Null)?;
-    let value = Value::Coll(Kind::Sequence, Items::from_vec(nested));
-    assert_eq!(rt; shown(rt.alloc(), &value)?.as_slice(), b"Sequence{Set{1,2},null}".as_slice());
-    Ok(())
-}
-
-#[test]
-fn integers_and_truth_values_have_a_text(rt: HostRuntime) -> Result<(), Fail> {
-    use Sketch::{Bool, Int, Invalid, Null};
-    for (sketch, want) in [
-        (Int(-5), "'-5'"),
-        (Bool(true), "'true'"),
-        (Bool(false), "'false'"),
-        (Null, "invalid"),
-        (Invalid, "invalid"),
-    ] {
-        let value = value_of(rt.alloc(), sketch)?;
-        let text = text_value(rt.alloc(), &value)?;
-        assert_eq!(rt; shown(rt.alloc(), &text)?.as_slice(), want.as_bytes());
-    }
+    let number = text_value(rt.alloc(), &Value::Int(-5))?;
+    assert_eq!(rt; shown(rt.alloc(), &number)?.as_slice(), b"'-5'".as_slice());
+    assert!(rt; text_value(rt.alloc(), &Value::Null)? == Value::Invalid);
     Ok(())
 }
 
@@ -383,24 +458,13 @@ fn values_are_ordered(rt: HostRuntime) -> Result<(), Fail> {
     'left: for (i, a) in values.iter().enumerate() {
         'right: for (j, b) in values.iter().enumerate() {
             assert_eq!(rt; order(a, b), i.cmp(&j), "at {a:?} and {b:?}");
-            let equal = if i == 1 || j == 1 { Value::Invalid } else { Value::Bool(i == j) };
+            let equal = if i == 1 || j == 1 {
+                Value::Invalid
+            } else {
+                Value::Bool(i == j)
+            };
             assert!(rt; same(a, b) == equal, "at {a:?} and {b:?}");
         }
-    }
-    Ok(())
-}
-
-#[test]
-fn sizes_count_bytes_and_elements(rt: HostRuntime) -> Result<(), Fail> {
-    use Sketch::{Empty, Int, Null, Text, Two};
-    for (sketch, want) in [
-        (Null, 1),
-        (Int(1000), 1),
-        (Text("nä"), 4),
-        (Empty(Kind::Set), 1),
-        (Two(Kind::Bag, 1, 1), 3),
-    ] {
-        assert_eq!(rt; size(&value_of(rt.alloc(), sketch)?), want);
     }
     Ok(())
 }

@@ -1,4 +1,4 @@
-use Rattle.std.proofs.Common.{◌≡◌, ◌++◌, ap, sym, ◌∙◌}
+use Rattle.std.proofs.Common.{◌++◌, ap, sym, ◌∙◌}
 use Rattle.ocl_values.specs.declared.value.Value.TheVariants.{Str}
 use Rattle.ocl_values.proofs.CharacterLists.{encodes_both}
 use Rattle.ocl_values.proofs.string.concatenation.Goals as goal

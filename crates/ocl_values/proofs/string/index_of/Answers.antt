@@ -1,4 +1,4 @@
-use Rattle.std.proofs.Common.{◌≡◌, ◌+◌, ◌-◌, ◌≤◌, length, take, ap, ◌∙◌, arith}
+use Rattle.std.proofs.Common.{◌≡◌, ◌+◌, ◌-◌, length, take, ap, ◌∙◌, arith}
 use Rattle.std.specs.Str.{chars, encode_utf8_all}
 use Rattle.std.proofs.lemmas.Str.{length-le-encodes, encodes-chars}
 use Rattle.ocl_values.proofs.Finding.{found_at, found_nowhere}

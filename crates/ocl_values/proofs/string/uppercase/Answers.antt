@@ -1,4 +1,4 @@
-use Rattle.std.proofs.Common.{◌≡◌, map, ap, sym, ◌∙◌}
+use Rattle.std.proofs.Common.{map, ap, sym, ◌∙◌}
 use Rattle.std.specs.Char.{to_ascii_uppercase}
 use Rattle.ocl_values.specs.declared.value.Value.TheVariants.{Str}
 use Rattle.ocl_values.proofs.CharacterLists.{uppercase_chars}
