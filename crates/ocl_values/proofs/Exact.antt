@@ -1,5 +1,5 @@
 -- The order of values is by rank, and of two values that it does not tell apart, each is the other.
-use Rattle.std.proofs.Common.{◌≡◌, List, [], ◌∷◌, map, ℕ, T, true, false, Less, Equal, Greater, Ordering, ◌↔◌, refl, sym, ap, ap₂, ◌∙◌, subst, is_eq}
+use Rattle.std.proofs.Common.{◌≡◌, List, [], ◌∷◌, map, ℕ, T, true, false, true≢false, Less, Equal, Greater, Ordering, ◌↔◌, refl, sym, ap, ap₂, ◌∙◌, subst, is_eq}
 use Rattle.std.specs.Cmp.{IsTotalOrder}
 use Rattle.std.specs.Cmp.Lexicographic.{slice_cmp}
 use Rattle.std.proofs.lemmas.Cmp.{tied_itself}
@@ -10,6 +10,7 @@ use Rattle.ocl_values.specs.declared.value.Kind.TheVariants as KV
 use Rattle.ocl_values.specs.contracts.value.KindOrd.TheImpl as KO
 use Rattle.ocl_values.specs.contracts.value.ValueOrd.TheImpl.{the_step}
 use Rattle.ocl_values.specs.contracts.value.ValueOrd.TheImpl.Laws.{local, total-law}
+use Rattle.ocl_values.specs.Logic.{is_invalid}
 use Rattle.ocl_values.specs.Order.{value_cmp, kind_rank, by_rank}
 use Rattle.ocl_values.specs.declared.value.Value.{Value, roll-Value, out-Value, roll-out-Value, out-roll-Value, items_shown-the_row-Value-0}
 use Rattle.ocl_values.specs.declared.value.Value.TheOpen as O
@@ -174,6 +175,18 @@ value_exact = F.ind-Value Same (λ x y is b e.
 pub value_total : IsTotalOrder value_cmp
 value_total = total-law
 
+equal_is : (r : Ordering) → is_eq r ≡ true → r ≡ Equal
+equal_is Less e = absurd (true≢false (sym e))
+equal_is Equal e = refl
+equal_is Greater e = absurd (true≢false (sym e))
+
 -- the order answers equal exactly at one value
 pub equal_exact : (r : Ordering) (u v : Value) → r ≡ value_cmp u v → (r ≡ Equal) ↔ (u ≡ v)
 equal_exact r u v e = (λ h. value_exact u v (sym e ∙ h), λ h. e ∙ ap (value_cmp u) (sym h) ∙ tied_itself value_total u)
+
+-- the test of equality tells one value from every other
+pub same_exact : (b : _) (u v : Value) → b ≡ is_eq (value_cmp u v) → is_invalid u ≡ false → (V.Bool b ≡ V.Bool true) ↔ ((u ≡ v) × (is_invalid u ≡ false))
+same_exact b u v e valid = (
+  (λ h. let is : b ≡ true = cc in (value_exact u v (equal_is (value_cmp u v) (sym e ∙ is)), valid)),
+  (λ h. ap V.Bool (e ∙ ap is_eq ((equal_exact (value_cmp u v) u v refl).1 h.0))),
+)

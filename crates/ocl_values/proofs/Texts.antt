@@ -1,5 +1,5 @@
 -- The text of a collection, by the texts of its elements.
-use Rattle.std.proofs.Common.{◌≡◌, ◌==◌, ℕ, zero, suc, ◌+◌, ◌<◌, List, [], ◌∷◌, ◌++◌, length, map, take, get_or, if◌then◌else◌, ap, ap₂, sym, refl, ◌∙◌, append_assoc, Option, arith}
+use Rattle.std.proofs.Common.{◌≡◌, ◌==◌, ℕ, zero, suc, ◌+◌, ◌<◌, List, [], ◌∷◌, ◌++◌, length, map, take, get_or, if◌then◌else◌, ap, sym, refl, ◌∙◌, append_assoc, Option, arith}
 use Rattle.std.specs.List.{join_with_byte}
 use Rattle.std.proofs.lemmas.Bool.Decides.{nat_tests}
 use Rattle.std.specs.Prelude.{codes}
@@ -47,7 +47,7 @@ module _ (f : Value → List ℕ) (all : List Value) (i : ℕ) (v : Value) where
   pub joined_more : i < length all → v ≡ get_or all i v → join_with_byte 44 (map f (take (i + 1) all)) ≡ join_with_byte 44 (map f (take i all)) ++ (if i == 0 then [] else 44 ∷ []) ++ f v
   joined_more in_all is =
       let front : map f (take (i + 1) all) ≡ map f (take i all) ++ f v ∷ [] =
-        ap (map f) (take_more all i v in_all ∙ ap (λ x. take i all ++ x ∷ []) (sym is)) ∙ map-append f (take i all) (v ∷ []) in
+      ap (map f) (take_more all i v in_all ∙ ap (λ x. take i all ++ x ∷ []) (sym is)) ∙ map-append f (take i all) (v ∷ []) in
       let long : length (map f (take i all)) ≡ i = length-map (take i all) f ∙ length-take-le i all (omega arith) in
       ap (join_with_byte 44) front ∙ join-push (map f (take i all)) (f v) ∙ ap (λ b. join_with_byte 44 (map f (take i all)) ++ b ++ f v) (between_at i (map f (take i all)) long)
 

@@ -1,5 +1,5 @@
 -- The operations of Integer, over the whole numbers, where a result out of range is invalid.
-use Rattle.std.specs.Prelude.{ℕ, zero, ◌^◌, nat_lt, Bool, if◌then◌else◌, Option, Some, None, ℤ, pos, negsuc, ◌+ℤ◌, ◌-ℤ◌, ◌*ℤ◌, neg_ℤ, unsigned_abs, int_div, int_lt, int_le}
+use Rattle.std.specs.Prelude.{zero, ◌^◌, nat_lt, Bool, if◌then◌else◌, Option, Some, None, ℤ, pos, negsuc, ◌+ℤ◌, ◌-ℤ◌, ◌*ℤ◌, neg_ℤ, unsigned_abs, int_div, int_lt, int_le}
 use Rattle.std.specs.Int.{int_min, int_max}
 use Rattle.ocl_values.specs.declared.value.Value.{Value}
 use Rattle.ocl_values.specs.declared.value.Value.TheVariants as V

@@ -22,6 +22,12 @@ truth_of (V.Bool true) = True
 truth_of Null = T.Null
 truth_of _ = T.Invalid
 
+abbrev pub value_of : Truth → Value
+value_of False = no
+value_of True = yes
+value_of T.Null = Null
+value_of T.Invalid = Invalid
+
 -- the place of a truth value in a row, and of its row in a table
 abbrev pub place : Truth → ℕ
 place False = 0

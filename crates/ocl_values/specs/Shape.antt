@@ -1,5 +1,5 @@
 -- The size of a value, how deep it nests, and what a well-made value is.
-use Rattle.std.specs.Prelude.{◌≡◌, ℕ, ◌+◌, ◌≤◌, nat_le, max, Bool, true, false, ◌||◌, cond, List, [], ◌∷◌, length}
+use Rattle.std.specs.Prelude.{◌≡◌, ℕ, ◌+◌, ◌≤◌, nat_le, max, Bool, false, ◌||◌, cond, List, [], ◌∷◌, length}
 use Rattle.ocl_values.specs.Order.{value_cmp}
 use Rattle.ocl_values.specs.Logic.{is_invalid}
 use Rattle.ocl_values.specs.Canon.{bag_of, set_of, firsts_of}

@@ -1,8 +1,8 @@
 -- The operations of String, over the list of its characters.
-use Rattle.std.specs.Prelude.{ℕ, zero, suc, ◌+◌, ◌-◌, ◌*◌, nat_eq, nat_le, ◌==◌, Bool, true, false, not, ◌&&◌, if◌then◌else◌, List, [], ◌∷◌, ◌++◌, map, length, take, drop, fold, ℤ, pos, negsuc, neg_ℤ, codes}
-use Rattle.std.specs.Str.{chars, encode_utf8_all}
-use Rattle.std.specs.Char.{encode_utf8, to_ascii_uppercase, to_ascii_lowercase}
-use Rattle.std.specs.List.{list_all, starts_with}
+use Rattle.std.specs.Prelude.{ℕ, zero, suc, ◌+◌, ◌-◌, ◌*◌, nat_eq, nat_le, ◌==◌, Bool, true, false, not, ◌&&◌, if◌then◌else◌, Option, Some, None, List, [], ◌∷◌, ◌++◌, map, length, take, drop, fold, ℤ, pos, neg_ℤ, codes}
+use Rattle.std.specs.Str.{all_ascii_digits, chars, encode_utf8_all}
+use Rattle.std.specs.Char.{to_ascii_uppercase, to_ascii_lowercase}
+use Rattle.std.specs.List.{starts_with}
 use Rattle.std.specs.Fmt.{signed_decimal}
 use Rattle.std.specs.declared.cmp.Ordering.{Ordering}
 use Rattle.std.specs.Ordering.{nat_cmp, is_lt, is_le, is_gt, is_ge}
@@ -31,15 +31,12 @@ one_later (suc k) = suc (suc k)
 
 -- the first place at which the characters ts stand, counted from 1, or 0 for none; the empty ones stand at 1
 abbrev pub index_of : List ℕ → List ℕ → ℕ
-index_of ts [] = if nat_eq (length ts) 0 then 1 else 0
+index_of ts [] = if starts_with nat_eq [] ts then 1 else 0
 index_of ts (c ∷ cs) = if starts_with nat_eq (c ∷ cs) ts then 1 else one_later (index_of ts cs)
-
-abbrev pub is_digit : ℕ → Bool
-is_digit c = nat_le 48 c && nat_le c 57
 
 -- one digit or more, and nothing else
 abbrev pub is_numeral : List ℕ → Bool
-is_numeral cs = not (nat_eq (length cs) 0) && list_all is_digit cs
+is_numeral cs = not (nat_eq (length cs) 0) && all_ascii_digits cs
 
 -- the number that digits write
 abbrev pub number_of : List ℕ → ℕ
@@ -53,43 +50,48 @@ integer_of (c ∷ cs) =
     then (if is_numeral cs then int_value (neg_ℤ (pos (number_of cs))) else Invalid)
     else (if is_numeral (c ∷ cs) then int_value (pos (number_of (c ∷ cs))) else Invalid)
 
--- what a text gives of no argument, of one String, of one Integer and of two; other arguments make it invalid
+-- the arguments as an operation takes them: none, one String, one Integer, two Integers
 
-abbrev pub with_none : Value → List Value → Value
-with_none v [] = v
-with_none v (x ∷ xs) = Invalid
+abbrev pub no_argument : List Value → Bool
+no_argument [] = true
+no_argument (x ∷ xs) = false
 
-abbrev pub with_string : (List ℕ → Value) → List Value → Value
-with_string f (Str t ∷ []) = f t
-with_string f _ = Invalid
+abbrev pub string_argument : List Value → Option (List ℕ)
+string_argument (Str t ∷ []) = Some t
+string_argument _ = None
 
-abbrev pub with_integer : (ℤ → Value) → List Value → Value
-with_integer f (Int n ∷ []) = f n
-with_integer f _ = Invalid
+abbrev pub integer_argument : List Value → Option ℤ
+integer_argument (Int n ∷ []) = Some n
+integer_argument _ = None
 
-abbrev pub with_integers : (ℤ → ℤ → Value) → List Value → Value
-with_integers f (Int m ∷ Int n ∷ []) = f m n
-with_integers f _ = Invalid
+abbrev pub integer_arguments : List Value → Option (ℤ × ℤ)
+integer_arguments (Int m ∷ Int n ∷ []) = Some (m, n)
+integer_arguments _ = None
 
--- an order of texts by their bytes
-abbrev pub compared : (Ordering → Bool) → List ℕ → List Value → Value
-compared test s args = with_string (λ t. V.Bool (test (slice_cmp nat_cmp s t))) args
+-- what is given of an argument, and invalid where there is none
+abbrev pub with : {A : Type 0} → Option A → (A → Value) → Value
+with None f = Invalid
+with (Some x) f = f x
 
--- an operation of the text s
+-- whether the bytes of two texts stand in such an order
+abbrev pub compared : (Ordering → Bool) → List ℕ → List ℕ → Value
+compared test s t = V.Bool (test (slice_cmp nat_cmp s t))
+
+-- an operation of the text s; arguments of another number or kind make it invalid
 abbrev pub of_text : StrOp → List ℕ → List Value → Value
-of_text Size s args = with_none (Int (pos (length (chars s)))) args
-of_text Concat s args = with_string (λ t. string_of (chars s ++ chars t)) args
-of_text Substring s args = with_integers (substring (chars s)) args
-of_text At s args = with_integer (λ i. substring (chars s) i i) args
-of_text IndexOf s args = with_string (λ t. Int (pos (index_of (chars t) (chars s)))) args
-of_text Upper s args = with_none (string_of (map to_ascii_uppercase (chars s))) args
-of_text Lower s args = with_none (string_of (map to_ascii_lowercase (chars s))) args
-of_text Characters s args = with_none (Coll Sequence (map (λ c. string_of (c ∷ [])) (chars s))) args
-of_text ToInteger s args = with_none (integer_of (chars s)) args
-of_text Lt s args = compared is_lt s args
-of_text Le s args = compared is_le s args
-of_text Gt s args = compared is_gt s args
-of_text Ge s args = compared is_ge s args
+of_text Size s args = if no_argument args then Int (pos (length (chars s))) else Invalid
+of_text Concat s args = with (string_argument args) (λ t. string_of (chars s ++ chars t))
+of_text Substring s args = with (integer_arguments args) (λ places. substring (chars s) places.0 places.1)
+of_text At s args = with (integer_argument args) (λ i. substring (chars s) i i)
+of_text IndexOf s args = with (string_argument args) (λ t. Int (pos (index_of (chars t) (chars s))))
+of_text Upper s args = if no_argument args then string_of (map to_ascii_uppercase (chars s)) else Invalid
+of_text Lower s args = if no_argument args then string_of (map to_ascii_lowercase (chars s)) else Invalid
+of_text Characters s args = if no_argument args then Coll Sequence (map (λ c. string_of (c ∷ [])) (chars s)) else Invalid
+of_text ToInteger s args = if no_argument args then integer_of (chars s) else Invalid
+of_text Lt s args = with (string_argument args) (compared is_lt s)
+of_text Le s args = with (string_argument args) (compared is_le s)
+of_text Gt s args = with (string_argument args) (compared is_gt s)
+of_text Ge s args = with (string_argument args) (compared is_ge s)
 
 -- an operation of String; what is no String makes it invalid, as null and invalid do
 abbrev pub str_op_value : StrOp → Value → List Value → Value

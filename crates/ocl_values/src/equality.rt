@@ -2,6 +2,7 @@ ghost use Rattle.std.specs.Prelude.{◌≡◌, ◌↔◌, true, false};
 ghost use Rattle.std.specs.declared.cmp.Ordering.TheVariants.{Equal};
 ghost use Rattle.ocl_values.specs.Logic.{is_invalid, same_value};
 ghost use Rattle.ocl_values.specs.Order.{by_rank, value_cmp};
+ghost use Rattle.ocl_values.specs.Shape.{IsWellMade};
 
 use crate::Value;
 use std::cmp::Ordering;
@@ -14,7 +15,9 @@ fn is_invalid(v: &Value) -> bool
 
 /// `a = b`. Null equals null and nothing else.
 pub fn same(a: &Value, b: &Value) -> Value
-    ensures { result ≡ same_value a.now b.now }
+    ensures value { result ≡ same_value a.now b.now }
+    ensures equal { (result ≡ Value.Bool true) ↔ ((a.now ≡ b.now) × (is_invalid a.now ≡ false)) }
+    ensures well_made { IsWellMade result }
 {
     if is_invalid(a) || is_invalid(b) {
         Value::Invalid

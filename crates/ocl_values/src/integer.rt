@@ -1,5 +1,6 @@
 ghost use Rattle.std.specs.Prelude.{◌≡◌, ℤ, ◌+ℤ◌, ◌-ℤ◌, ◌*ℤ◌, neg_ℤ, pos, unsigned_abs};
 ghost use Rattle.ocl_values.specs.Integers.{checked, int_op_value, int_value, of_one, of_two, quotient, remainder};
+ghost use Rattle.ocl_values.specs.Shape.{IsWellMade};
 
 use crate::Value;
 
@@ -23,8 +24,8 @@ pub enum IntOp {
     Min,
 }
 
-// The integer, or invalid where there is none.
-fn checked(n: Option<i128>) -> Value
+/// The integer, or invalid where there is none.
+pub(crate) fn checked(n: Option<i128>) -> Value
     ensures { result ≡ checked n }
 {
     match n {
@@ -108,7 +109,8 @@ fn of_two(op: IntOp, a: i128, b: i128) -> Value
 /// An operation of Integer. One of a single integer does not look at b. A side that is null,
 /// invalid or no integer makes the result invalid, and so does a result past the range.
 pub fn int_op(op: IntOp, a: &Value, b: &Value) -> Value
-    ensures { result ≡ int_op_value op a.now b.now }
+    ensures value { result ≡ int_op_value op a.now b.now }
+    ensures well_made { IsWellMade result }
 {
     match a {
         Value::Int(a) => match b {

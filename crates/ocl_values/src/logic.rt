@@ -1,5 +1,6 @@
 ghost use Rattle.std.specs.Prelude.{◌≡◌};
-ghost use Rattle.ocl_values.specs.Logic.{and_table, at, entry, implies_table, in_row, not_row, or_table, same_value, truth_of, xor_table};
+ghost use Rattle.ocl_values.specs.Logic.{and_table, at, entry, implies_table, in_row, not_row, or_table, truth_of, value_of, xor_table};
+ghost use Rattle.ocl_values.specs.Shape.{IsWellMade};
 
 use crate::Value;
 
@@ -17,15 +18,20 @@ fn truth_of(v: &Value) -> Truth
     ensures { result ≡ truth_of v.now }
 {
     match v {
-        Value::Bool(b) => {
-            if *b {
-                Truth::True
-            } else {
-                Truth::False
-            }
-        }
+        Value::Bool(b) => { if *b { Truth::True } else { Truth::False } }
         Value::Null => Truth::Null,
         _ => Truth::Invalid,
+    }
+}
+
+fn value_of(truth: Truth) -> Value
+    ensures { result ≡ value_of truth }
+{
+    match truth {
+        Truth::False => Value::Bool(false),
+        Truth::True => Value::Bool(true),
+        Truth::Null => Value::Null,
+        Truth::Invalid => Value::Invalid,
     }
 }
 
@@ -56,7 +62,8 @@ fn negation(a: Truth) -> Truth
 
 /// `a and b`.
 pub fn and(a: &Value, b: &Value) -> Value
-    ensures { result ≡ entry and_table a.now b.now }
+    ensures value { result ≡ entry and_table a.now b.now }
+    ensures well_made { IsWellMade result }
 {
     conjunction(truth_of(a), truth_of(b))
 }
@@ -77,7 +84,10 @@ fn disjunction(a: Truth, b: Truth) -> Value
 
 /// `a or b`.
 pub fn or(a: &Value, b: &Value) -> Value
-    ensures { result ≡ entry or_table a.now b.now }
+    ensures value { result ≡ entry or_table a.now b.now }
+    ensures dual { in_row not_row (truth_of result)
+        ≡ entry and_table (in_row not_row (truth_of a.now)) (in_row not_row (truth_of b.now)) }
+    ensures well_made { IsWellMade result }
 {
     disjunction(truth_of(a), truth_of(b))
 }
@@ -98,7 +108,8 @@ fn exclusion(a: Truth, b: Truth) -> Value
 
 /// `a xor b`.
 pub fn xor(a: &Value, b: &Value) -> Value
-    ensures { result ≡ entry xor_table a.now b.now }
+    ensures value { result ≡ entry xor_table a.now b.now }
+    ensures well_made { IsWellMade result }
 {
     exclusion(truth_of(a), truth_of(b))
 }
@@ -111,19 +122,17 @@ fn implication(a: Truth, b: Truth) -> Value
 
 /// `a implies b`, which is `(not a) or b`.
 pub fn implies(a: &Value, b: &Value) -> Value
-    ensures { result ≡ entry implies_table a.now b.now }
+    ensures value { result ≡ entry implies_table a.now b.now }
+    ensures by_or { result ≡ entry or_table (in_row not_row (truth_of a.now)) b.now }
+    ensures well_made { IsWellMade result }
 {
     implication(truth_of(a), truth_of(b))
 }
 
 /// `not a`.
 pub fn not(a: &Value) -> Value
-    ensures { result ≡ in_row not_row (truth_of a.now) }
+    ensures value { result ≡ in_row not_row (truth_of a.now) }
+    ensures well_made { IsWellMade result }
 {
-    match negation(truth_of(a)) {
-        Truth::False => Value::Bool(false),
-        Truth::True => Value::Bool(true),
-        Truth::Null => Value::Null,
-        Truth::Invalid => Value::Invalid,
-    }
+    value_of(negation(truth_of(a)))
 }

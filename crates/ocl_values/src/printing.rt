@@ -11,6 +11,7 @@ use std::alloc::{AllocError, Global};
 /// The names that printing needs: those of live objects and of enumeration literals.
 pub trait Names {
     ghost object_name: { Self → ℕ → Option (List ℕ) };
+
     ghost literal_name: { Self → ℕ → ℕ → Option (List ℕ × List ℕ) };
 
     /// The name of a live object; none of a destroyed one.
@@ -101,7 +102,12 @@ fn append_literal(names: Option<(&str, &str)>, out: &mut Vec<u8>) -> Result<(), 
     }
 }
 
-fn append_object(alloc: Global, object: ObjNo, name: Option<&str>, out: &mut Vec<u8>) -> Result<(), AllocError>
+fn append_object(
+    alloc: Global,
+    object: ObjNo,
+    name: Option<&str>,
+    out: &mut Vec<u8>,
+) -> Result<(), AllocError>
     ensures { OnOk result (out.new.items ≡ out.old.items ++ object_text object (option_copied name.entry)) }
 {
     match name {
@@ -122,7 +128,12 @@ fn append_separator(at: usize, out: &mut Vec<u8>) -> Result<(), AllocError>
 
 /// Appends the text of a value to out. After want of memory, out is in no stated condition.
 #[cycle(print)]
-pub fn print<N: Names>(alloc: Global, v: &Value, names: &N, out: &mut Vec<u8>) -> Result<(), AllocError>
+pub fn print<N: Names>(
+    alloc: Global,
+    v: &Value,
+    names: &N,
+    out: &mut Vec<u8>,
+) -> Result<(), AllocError>
     ensures { OnOk result (out.new.items
         ≡ out.old.items ++ value_text (N.object_name names.now) (N.literal_name names.now) v.now) }
 {
@@ -132,7 +143,10 @@ pub fn print<N: Names>(alloc: Global, v: &Value, names: &N, out: &mut Vec<u8>) -
         Value::Bool(b) => append(bool_text(*b), out),
         Value::Int(n) => append_integer(alloc, *n, out),
         Value::Str(text) => append_quoted(text.as_str(), out),
-        Value::Enum(enumeration, literal) => append_literal(names.literal(*enumeration, *literal), out),
+        Value::Enum(enumeration, literal) => append_literal(
+            names.literal(*enumeration, *literal),
+            out,
+        ),
         Value::Obj(object) => append_object(alloc, *object, names.object(*object), out),
         Value::Coll(kind, items) => {
             append(kind_name(*kind), out)?;
@@ -145,7 +159,12 @@ pub fn print<N: Names>(alloc: Global, v: &Value, names: &N, out: &mut Vec<u8>) -
 }
 
 #[cycle(print)]
-fn print_elements<N: Names>(alloc: Global, all: &[Value], names: &N, out: &mut Vec<u8>) -> Result<(), AllocError>
+fn print_elements<N: Names>(
+    alloc: Global,
+    all: &[Value],
+    names: &N,
+    out: &mut Vec<u8>,
+) -> Result<(), AllocError>
     ensures { OnOk result (out.new.items
         ≡ out.old.items ++ join_with_byte 44 (map (value_text (N.object_name names.now) (N.literal_name names.now)) all.now)) }
 {

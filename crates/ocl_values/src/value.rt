@@ -20,7 +20,7 @@ pub enum Kind {
 }
 
 /// A value of OCL (OCL 2.3.1, clause 11).
-#[derive(Drop, PartialEq, Eq, PartialOrd, Ord)]
+#[derive(Debug, Drop, PartialEq, Eq, PartialOrd, Ord)]
 pub enum Value {
     Null,
     Invalid,

@@ -1,4 +1,4 @@
-use Rattle.std.proofs.Common.{◌≡◌, ap, sym, ◌∙◌, ◌++◌, ◌+◌, map, take}
+use Rattle.std.proofs.Common.{ap, sym, ◌∙◌, ◌++◌, map}
 use Rattle.std.specs.List.{join_with_byte}
 use Rattle.ocl_values.specs.Printing.{value_text}
 use Rattle.ocl_values.proofs.Texts.{value_text-Coll, gathered, followed, joined_more}
