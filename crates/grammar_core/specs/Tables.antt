@@ -24,23 +24,19 @@ choices [] None = []
 choices [] (Some q) = q ∷ []
 choices (b ∷ bs) other = b.to ∷ choices bs other
 
--- the productions that a production names
-abbrev pub parts : Prod → List ℕ
-parts (Tok k) = []
-parts (Call r) = []
-parts (Seq ps) = ps
-parts (Case bs other) = choices bs other
-parts (Star firsts q) = q ∷ []
-
 -- the production of a rule that does not nest
 abbrev pub unnested : Option Rule → List ℕ
 unnested None = []
 unnested (Some rule) = if rule.nests then [] else rule.to ∷ []
 
--- the productions that a production names or, without nesting, calls
-abbrev pub parts_and_calls : Table → Prod → List ℕ
-parts_and_calls g (Tok k) = []
-parts_and_calls g (Call r) = unnested (rule_at g r)
-parts_and_calls g (Seq ps) = ps
-parts_and_calls g (Case bs other) = choices bs other
-parts_and_calls g (Star firsts q) = q ∷ []
+-- the productions that a production names, and with `calls` also the one that it calls without nesting
+abbrev pub next_prods : Bool → Table → Prod → List ℕ
+next_prods calls g (Tok k) = []
+next_prods calls g (Call r) = if calls then unnested (rule_at g r) else []
+next_prods calls g (Seq ps) = ps
+next_prods calls g (Case bs other) = choices bs other
+next_prods calls g (Star firsts q) = q ∷ []
+
+-- these, for each production
+abbrev pub graph_of : Bool → Table → List (List ℕ)
+graph_of calls g = map (λ x. next_prods calls g x) g.prods
