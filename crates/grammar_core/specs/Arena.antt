@@ -46,15 +46,15 @@ pub record IsTree (nodes : List Node) : Type 0 where
 -- the nodes that have their place, and those that wait for the node above them
 pub record Built : Type 0 where
   pub nodes : List Node
-  pub open : List Node
+  pub waiting : List Node
 
 pub record IsBuilt (b : Built) : Type 0 where
   pub placed : IsArena 0 b.nodes
-  pub waiting : ArePlaced (length b.nodes) b.open
+  pub ahead : ArePlaced (length b.nodes) b.waiting
 
 -- the trees read so far
 abbrev pub read_trees : Built → List ParseTree
-read_trees b = map (λ n. tree_with (node_trees b.nodes) n) b.open
+read_trees b = map (λ n. tree_with (node_trees b.nodes) n) b.waiting
 
 -- with the trees from a place on below a rule
 abbrev pub closed : ℕ → ℕ → List ParseTree → List ParseTree

@@ -2,7 +2,7 @@ pub mod Tables
 pub mod Paths
 pub mod Empty
 pub mod Unfit
-pub mod Tests
+pub mod Checks
 pub mod Trees
 pub mod Derives
 pub mod Arena

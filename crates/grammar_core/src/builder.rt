@@ -6,12 +6,12 @@ use crate::{Node, ParseFault, Tree};
 use std::alloc::Global;
 use std::marker::Model;
 
-/// The trees that were read so far, each by its node in `open`. The nodes below these stand in
+/// The trees that were read so far, each by its node in `waiting`. The nodes below these stand in
 /// `nodes`, those with one parent side by side.
 #[derive(Drop)]
 pub(crate) struct Builder {
     nodes: Vec<Node>,
-    open: Vec<Node>,
+    waiting: Vec<Node>,
 }
 
 impl Model for Builder {
@@ -19,9 +19,9 @@ impl Model for Builder {
 
     ghost Value = { Built };
 
-    ghost view = { λ b. record { nodes = b.nodes.items; open = b.open.items } };
+    ghost view = { λ b. record { nodes = b.nodes.items; waiting = b.waiting.items } };
 
-    ghost invariant = { λ b. IsBuilt (record { nodes = b.nodes.items; open = b.open.items }) };
+    ghost invariant = { λ b. IsBuilt (record { nodes = b.nodes.items; waiting = b.waiting.items }) };
 }
 
 fn put(nodes: &mut Vec<Node>, node: Node) -> Result<(), ParseFault>
@@ -39,7 +39,7 @@ impl Builder {
     {
         Builder {
             nodes: Vec::new(alloc),
-            open: Vec::new(alloc),
+            waiting: Vec::new(alloc),
         }
     }
 
@@ -47,28 +47,28 @@ impl Builder {
     pub(crate) fn len(&self) -> usize
         ensures { result ≡ length (read_trees self.now) }
     {
-        self.open.len()
+        self.waiting.len()
     }
 
     /// Adds the tree of a token.
     pub(crate) fn push_token(&mut self, kind: u16, token: u32) -> Result<(), ParseFault>
         ensures { MatchResult result (λ u. read_trees self.new ≡ read_trees self.old ++ leaf kind token ∷ []) (λ e. e ≡ ParseFault.Memory) }
     {
-        put(&mut self.open, Node::Token(kind, token))
+        put(&mut self.waiting, Node::Token(kind, token))
     }
 
     /// Puts the trees from `start` on below a rule.
     pub(crate) fn close(&mut self, rule: u16, start: u64) -> Result<(), ParseFault>
         ensures { MatchResult result (λ u. read_trees self.new ≡ closed rule start (read_trees self.old)) (λ e. e ≡ ParseFault.Memory) }
     {
-        let start = self.open.len().min(start as usize);
+        let start = self.waiting.len().min(start as usize);
         let first = self.nodes.len() as u64;
-        let count = (self.open.len() - start) as u64;
-        if self.nodes.extend_from_slice(&self.open[start..]).is_err() {
+        let count = (self.waiting.len() - start) as u64;
+        if self.nodes.extend_from_slice(&self.waiting[start..]).is_err() {
             return Err(ParseFault::Memory);
         }
-        self.open.truncate(start);
-        put(&mut self.open, Node::Rule(rule, first, count))
+        self.waiting.truncate(start);
+        put(&mut self.waiting, Node::Rule(rule, first, count))
     }
 
     /// The tree that was read last, as a tree of its own.
@@ -76,8 +76,8 @@ impl Builder {
         requires { 0 < length (read_trees self) }
         ensures { MatchResult result (λ t. slice_get (read_trees self) (length (read_trees self) - 1) ≡ Some (root_tree t)) (λ e. e ≡ ParseFault.Memory) }
     {
-        let Builder { mut nodes, mut open } = self;
-        match open.pop() {
+        let Builder { mut nodes, mut waiting } = self;
+        match waiting.pop() {
             Some(root) => {
                 put(&mut nodes, root)?;
                 Ok(Tree::from_nodes(nodes))

@@ -2,7 +2,7 @@ ghost use Rattle.std.specs.Prelude.{◌≡◌, ◌≤◌, ◌↔◌, ◌<◌, []
 ghost use Rattle.grammar_core.specs.Empty.{MarksEmpty};
 ghost use Rattle.grammar_core.specs.Paths.{Path};
 ghost use Rattle.grammar_core.specs.Tables.{choices, graph_of, rule_at};
-ghost use Rattle.grammar_core.specs.Tests.{CallComesBack, RuleComesBack, any_past, empty_body_by, outside_by};
+ghost use Rattle.grammar_core.specs.Checks.{CallComesBack, RuleComesBack, any_past, empty_body_by, outside_by};
 ghost use Rattle.grammar_core.specs.Unfit.{IsFirstOf, IsTable, Unfit};
 
 use crate::lookup::{is_marked, rule_at};
