@@ -3,6 +3,7 @@ use Rattle.std.proofs.Common.{◌≡◌, ℕ, ◌+◌, ◌<◌, ◌≤◌, List,
 use Rattle.std.proofs.lemmas.List.{length-map, length-replicate}
 use Rattle.std.proofs.lemmas.Option.{slice_get-map, slice_get_cases, slice_get_within}
 use Rattle.grammar_core.specs.declared.table.Table.{Table}
+use Rattle.grammar_core.specs.declared.table.Rule.{Rule}
 use Rattle.grammar_core.specs.declared.table.Prod.{Prod}
 use Rattle.grammar_core.specs.declared.table.Prod.TheVariants.{Tok, Call, Seq, Case, Star}
 use Rattle.grammar_core.specs.Tables.{rule_from, rule_at, unnested, next_prods, graph_of}
@@ -150,6 +151,13 @@ module _ (g : Table) where
   leads_on : (a q r : ℕ) → Leads a q → IsIn r (next (graph_of true g) q) → r < length (graph_of true g) → Path (graph_of true g) a r
   leads_on a q r h e i = ⊎_elim (λ same. Path.first r (subst (λ (x : ℕ). IsIn r (next (graph_of true g) x)) (sym same) e) i) (λ way. Path.then q r way e i) h
 
+  joined : (a b c : ℕ) → Path (graph_of true g) a b → Path (graph_of true g) b c → Path (graph_of true g) a c
+  joined a b _ way (Path.first q e i) = Path.then b q way e i
+  joined a b _ way (Path.then q r on e i) = Path.then q r (joined a b q way on) e i
+
+  leads_joined : (a b c : ℕ) → Leads a b → Leads b c → Leads a c
+  leads_joined a b c h k = ⊎_elim (λ same. subst (λ (x : ℕ). Leads x c) (sym same) k) (λ way. ⊎_elim (λ same. inr (subst (λ (x : ℕ). Path (graph_of true g) a x) same way)) (λ on. inr (joined a b c way on)) k) h
+
   path_split : (a b : ℕ) → Path (graph_of true g) a b → Path (graph_of false g) a b ⊎ IsCalling a b
   path_split a _ (Path.first q e i) =
       let s = step_at true a q e in
@@ -161,13 +169,31 @@ module _ (g : Table) where
       let n = graph_length true in
       let m = graph_length false in
       ⊎_elim
-      (λ early. ⊎_elim (λ part. inl (Path.then q r early part (omega (arith, i, n, m)))) (λ (call : IsCalling q r). inr (further call)) (step_split q r s.0 s.1 s.2 (omega (arith, i, n))))
+      (λ early. ⊎_elim (λ part. inl (Path.then q r early part (omega (arith, i, n, m)))) (λ (call : IsCalling q r). inr (record { caller = call.caller; r = call.r; to = call.to; is = call.is; rule = call.rule; flat = call.flat; inside = call.inside; before = leads_joined a q call.caller (inr way) call.before; after = call.after })) (step_split q r s.0 s.1 s.2 (omega (arith, i, n))))
       (λ (call : IsCalling a q). inr (record { caller = call.caller; r = call.r; to = call.to; is = call.is; rule = call.rule; flat = call.flat; inside = call.inside; before = call.before; after = inr (leads_on call.to q r call.after e i) }))
       (path_split a q way)
+
+  -- the call is a step
+  call_step : (a b : ℕ) (call : IsCalling a b) → IsIn call.to (next (graph_of true g) call.caller)
+  call_step a b call =
+      let e : rule_at g call.r ≡ rule_from (Some call.to) (Some false) = ap (λ (o : Option ℕ). rule_from o (slice_get g.nests call.r)) call.rule ∙ ap (λ (o : Option Bool). rule_from (Some call.to) o) call.flat in
+      subst (λ (l : List ℕ). IsIn call.to l) (sym (next_at true call.caller (Call call.r) call.is ∙ ap (λ (o : Option Rule). unnested o) e)) (inl refl)
+
+  -- where a production comes back to itself, some production is unfit
+  pub no_cycle : ((p : ℕ) → Unfit g p → ⊥) → (q : ℕ) → Path (graph_of true g) q q → ⊥
+  no_cycle fit q way = ⊎_elim (λ flat. fit q (Unfit.own_part flat)) (λ (call : IsCalling q q). fit call.caller (Unfit.own_call call.r call.to call.is call.rule call.flat (around call))) (path_split q q way)
     where
-      further : IsCalling q r → IsCalling a r
-      further call = record { caller = call.caller; r = call.r; to = call.to; is = call.is; rule = call.rule; flat = call.flat; inside = call.inside; before = ⊎_elim (λ same. inr (subst (λ (x : ℕ). Path (graph_of true g) a x) same way)) (λ on. inr (joined a q call.caller way on)) call.before; after = call.after }
-        where
-          joined : (a b c : ℕ) → Path (graph_of true g) a b → Path (graph_of true g) b c → Path (graph_of true g) a c
-          joined a b _ first (Path.first q e i) = Path.then b q first e i
-          joined a b _ first (Path.then q r way e i) = Path.then q r (joined a b q first way) e i
+      around : (call : IsCalling q q) → Path (graph_of true g) call.to call.to
+      around call = leads_on call.to call.caller call.to (leads_joined call.to q call.caller call.after call.before) (call_step q q call) (omega (arith, call.inside, graph_length true))
+
+  -- the rank falls along each step
+  pub rank_step : ((p : ℕ) → Unfit g p → ⊥) → (p q : ℕ) (x : Prod) → slice_get g.prods p ≡ Some x → IsIn q (next_prods true g x) → q < length g.prods → rank g q < rank g p
+  unfolding rank
+  rank_step fit p q x e i inside =
+      let y = slice_get_cases g.prods q in
+      ⊎_elim
+      (λ some. rank_falls (graph_of true g) p q (reach (graph_of true g) p) (reach (graph_of true g) q)
+      (reach_row (graph_of true g) p (next_prods true g x) (graph_at true p x e))
+      (reach_row (graph_of true g) q (next_prods true g some.0) (graph_at true q some.0 some.2))
+      (subst (λ (l : List ℕ). IsIn q l) (sym (next_at true p x e)) i) (omega (arith, inside, graph_length true)) (no_cycle fit q))
+      (λ past. absurd (omega (arith, past.0, inside))) y.1

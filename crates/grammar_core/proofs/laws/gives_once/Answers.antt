@@ -1,4 +1,5 @@
-use Rattle.grammar_core.proofs.Ranks.{rank_low}
+use Rattle.grammar_core.proofs.Moves.{whole_moved}
+use Rattle.grammar_core.proofs.Shift.{tasks_shift}
 use Rattle.grammar_core.proofs.laws.gives_once.Goals as goal
 
 pub returns : goal.returns
