@@ -4,3 +4,8 @@ pub mod Ranks
 pub mod Fits
 pub mod Shift
 pub mod Moves
+pub mod Same
+pub mod Star
+pub mod Complete
+pub mod Known
+pub mod Stack
