@@ -9,3 +9,5 @@ pub mod Star
 pub mod Complete
 pub mod Known
 pub mod Stack
+pub mod Verdicts
+pub mod Nodes
