@@ -11,3 +11,4 @@ pub mod Known
 pub mod Stack
 pub mod Verdicts
 pub mod Nodes
+pub mod Building

@@ -2,12 +2,12 @@
 use Rattle.std.proofs.Common.{◌≡◌, ℕ, ◌+◌, ◌-◌, ◌<◌, ◌≤◌, List, [], ◌∷◌, ◌++◌, length, map, take, drop, min, Option, Some, None, slice_get, zero, suc, refl, sym, ap, ◌∙◌, arith, subst, append_assoc, append-nil, length-append, ⊎_elim}
 use Rattle.std.proofs.lemmas.Bool.{cases_lt}
 use Rattle.std.proofs.lemmas.List.{length-map, take-append-le, drop-append-le, take-map, drop-map, map-append, take_all, drop_all, length-take-le, length-drop}
-use Rattle.std.proofs.lemmas.Option.{slice_get_within}
+use Rattle.std.proofs.lemmas.Option.{slice_get_within, slice_get-get_or, get_or_from_slice_get}
 use Rattle.std.proofs.Math.Seq.{drop-append_seam}
 use Rattle.grammar_core.specs.declared.node.Node.{Node}
 use Rattle.grammar_core.specs.declared.node.Node.TheVariants.{Token, Rule}
 use Rattle.grammar_core.specs.Trees.{ParseTree, leaf, node, row_of, trees_of, below}
-use Rattle.grammar_core.specs.Arena.{tree_with, trees_from, node_trees, IsPlaced, ArePlaced, IsArena, IsBuilt, Built, read_trees, closed}
+use Rattle.grammar_core.specs.Arena.{tree_with, trees_from, node_trees, tree_at, IsPlaced, ArePlaced, IsArena, IsBuilt, Built, read_trees, closed}
 
 part_same : {X : Type 0} (ts more : List X) (first count : ℕ) → first + count ≤ length ts → take count (drop first (ts ++ more)) ≡ take count (drop first ts)
 part_same ts more first count h = ap (λ (l : List _). take count l) (drop-append-le first ts more (omega (arith, h))) ∙ take-append-le count (drop first ts) more (omega (arith, h, length-drop first ts))
@@ -155,3 +155,45 @@ closed_past r start done =
     let b : drop (length done) done ≡ drop start done = drop_all (length done) done (omega arith) ∙ sym (drop_all start done l) in
     ap (λ (k : ℕ). closed r k done) e ∙ ap (λ (x : List ParseTree). x ++ (node r (row_of (drop (length done) done)) ∷ [])) a ∙ ap (λ (x : List ParseTree). take start done ++ (node r (row_of x) ∷ [])) b)
     (cases_lt start (length done))
+
+-- the trees below a rule's node
+pub below-rule : (ns : List Node) (i r first count : ℕ) → IsArena 0 ns → slice_get ns i ≡ Some (Rule r first count) → below (tree_at ns i) ≡ take count (drop first (node_trees ns))
+below-rule ns i r first count h e =
+    let t = node_tree ns i (Rule r first count) h e in
+    ap (λ (x : ParseTree). below x) (get_or_from_slice_get (node_trees ns) i (tree_with (node_trees ns) (Rule r first count)) (leaf 0 0) t) ∙ trees_of-row_of (take count (drop first (node_trees ns)))
+
+pub tree_at-node : (ns : List Node) (i : ℕ) (x : Node) → IsArena 0 ns → slice_get ns i ≡ Some x → tree_at ns i ≡ tree_with (node_trees ns) x
+tree_at-node ns i x h e = get_or_from_slice_get (node_trees ns) i (tree_with (node_trees ns) x) (leaf 0 0) (node_tree ns i x h e)
+
+arena_at : (k : ℕ) (ns : List Node) (i : ℕ) (x : Node) → IsArena k ns → slice_get ns i ≡ Some x → IsPlaced (k + i) x
+arena_at k [] i x h e = (cc)
+arena_at k (n ∷ ns) zero x h e = let same : n ≡ x = cc in let z : k ≡ k + 0 = omega arith in subst (λ (y : Node). IsPlaced (k + 0) y) same (subst (λ (j : ℕ). IsPlaced j n) z h.0)
+arena_at k (n ∷ ns) (suc i) x h e = let z : suc k + i ≡ k + suc i = omega arith in subst (λ (j : ℕ). IsPlaced j x) z (arena_at (suc k) ns i x h.1 e)
+
+-- the nodes below a rule's node stand before it
+pub placed_at : (ns : List Node) (i r first count : ℕ) → IsArena 0 ns → slice_get ns i ≡ Some (Rule r first count) → first + count ≤ i
+placed_at ns i r first count h e = let p : first + count ≤ 0 + i = arena_at 0 ns i (Rule r first count) h e in omega (arith, p)
+
+pub length-below : (ns : List Node) (i r first count : ℕ) → IsArena 0 ns → slice_get ns i ≡ Some (Rule r first count) → length (below (tree_at ns i)) ≡ count
+length-below ns i r first count h e =
+    let p = placed_at ns i r first count h e in
+    let l : i < length ns = slice_get_within ns i (Rule r first count) e in
+    ap (λ (ts : List ParseTree). length ts) (below-rule ns i r first count h e) ∙ length-take-le count (drop first (node_trees ns)) (omega (arith, p, l, length-drop first (node_trees ns), length-node_trees ns))
+
+get_taken : {X : Type 0} (count i : ℕ) (xs : List X) → i < count → slice_get (take count xs) i ≡ slice_get xs i
+get_taken zero i xs l = absurd (omega arith)
+get_taken (suc count) i [] l = refl
+get_taken (suc count) zero (x ∷ xs) l = refl
+get_taken (suc count) (suc i) (x ∷ xs) l = get_taken count i xs (omega arith)
+
+get_dropped : {X : Type 0} (first i : ℕ) (xs : List X) → slice_get (drop first xs) i ≡ slice_get xs (first + i)
+get_dropped zero i xs = let z : i ≡ 0 + i = omega arith in ap (λ (k : ℕ). slice_get xs k) z
+get_dropped (suc first) i [] = refl
+get_dropped (suc first) i (x ∷ xs) = let z : suc (first + i) ≡ suc first + i = omega arith in get_dropped first i xs ∙ ap (λ (k : ℕ). slice_get (x ∷ xs) k) z
+
+pub below_at : (ns : List Node) (n r first count i : ℕ) → IsArena 0 ns → slice_get ns n ≡ Some (Rule r first count) → i < count → slice_get (below (tree_at ns n)) i ≡ Some (tree_at ns (first + i))
+below_at ns n r first count i h e l =
+    let p = placed_at ns n r first count h e in
+    let w : n < length ns = slice_get_within ns n (Rule r first count) e in
+    let in_range : first + i < length (node_trees ns) = omega (arith, p, w, l, length-node_trees ns) in
+    ap (λ (ts : List ParseTree). slice_get ts i) (below-rule ns n r first count h e) ∙ get_taken count i (drop first (node_trees ns)) l ∙ get_dropped first i (node_trees ns) ∙ slice_get-get_or (node_trees ns) (first + i) (leaf 0 0) in_range
