@@ -16,12 +16,13 @@ use Rattle.grammar_core.specs.Trees.{ParseTree}
 use Rattle.grammar_core.specs.Empty.{MayBeEmpty}
 use Rattle.grammar_core.specs.Unfit.{IsFit}
 use Rattle.grammar_core.specs.Derives.{Outcome, begins, branch_of, max_level, level_in}
-use Rattle.grammar_core.specs.Answers.{Answer, Reading, then_at, in_turn, again, close, of_production, whole, outcome_of, Meets}
+use Rattle.grammar_core.specs.Answers.{Answer, Reading, then_at, in_turn, again, close, of_production, whole, outcome_of, steps_of, Meets}
 use Rattle.grammar_core.specs.Tasks.{task, tasks_from, tasks, reads, IsTask, AreTasks}
 use Rattle.grammar_core.proofs.Fits.{IsBelow, AllBelow, OtherBelow, NextFits, RuleFits, Fits, branch_below, fits, rule_there}
 use Rattle.grammar_core.proofs.Same.{unroll}
 use Rattle.grammar_core.proofs.Complete.{at_level, at_no_level, stop_some}
 use Rattle.grammar_core.proofs.Star.{star_more}
+use Rattle.grammar_core.proofs.Shift.{later, tasks_shift, outcome_of-later, steps_of-later}
 
 pub last_read : (level p : ℕ) (ps : List ℕ) (ts : List Task) → ts ++ reverse (reads level (p ∷ ps)) ≡ (ts ++ reverse (reads level ps)) ++ (Read p level ∷ [])
 last_read level p ps ts = rw (reverse-append (Read p level ∷ []) (reads level ps)) (sym (append_assoc ts (reverse (reads level ps)) (Read p level ∷ [])))
@@ -146,3 +147,22 @@ fails_all g ks (Deep x) trees stack rest t at done z s same m = sym same ∙ ap 
 pub none_left : (l : List Task) → length l ≡ 0 → l ≡ []
 none_left [] e = refl
 none_left (t ∷ ts) e = absurd (omega arith)
+
+-- one step: the outcome stays, and one step less is to come
+pub one_step : (g : Table) (ks : List ℕ) (stack rest new : List Task) (t : Task) (at to : ℕ) (done more : List ParseTree) → stack ≡ rest ++ (t ∷ []) → tasks g ks new to more 1 ≡ then_at (task g ks t at done 0) (λ x l i. tasks g ks rest x l i)
+    → (outcome_of (tasks g ks new to more 0) ≡ outcome_of (tasks g ks stack at done 0)) × (steps_of (tasks g ks new to more 0) < steps_of (tasks g ks stack at done 0))
+one_step g ks stack rest new t at to done more s e =
+    let all : tasks g ks stack at done 0 ≡ later (tasks g ks new to more 0) = ap (λ (l : List Task). tasks g ks l at done 0) s ∙ tasks-snoc g ks rest t at done 0 ∙ sym e ∙ tasks_shift g ks new to more 0 in
+    let less : steps_of (tasks g ks stack at done 0) ≡ suc (steps_of (tasks g ks new to more 0)) = ap (λ (a : Answer). steps_of a) all ∙ steps_of-later (tasks g ks new to more 0) in
+    (sym (ap (λ (a : Answer). outcome_of a) all ∙ outcome_of-later (tasks g ks new to more 0)), omega (arith, less))
+
+-- the first two tasks
+pub started : (g : Table) (fit : IsFit g) (ks : List ℕ) (trees : List ParseTree) (none stack : List Task) (r inner : ℕ) (rule : Rule) → trees ≡ [] → none ≡ [] → r < length g.rules → rule_at g r ≡ Some rule → level_in rule 0 ≡ Some inner → stack ≡ (none ++ (Close r 0 ∷ [])) ++ (Read rule.to inner ∷ [])
+    → (outcome_of (tasks g ks stack 0 trees 0) ≡ outcome_of (of_production g ks (whole g ks) 0 (Some (Call r)) 0 [] 0)) × AreTasks g stack
+started g fit ks trees none stack r inner rule t n h i l s =
+    let all : stack ≡ ([] ++ (Close r 0 ∷ [])) ++ (Read rule.to inner ∷ []) = s ∙ ap (λ (x : List Task). (x ++ (Close r 0 ∷ [])) ++ (Read rule.to inner ∷ [])) n in
+    let there = rule_there g fit r h in
+    let same : there.0 ≡ rule = let e : Some there.0 ≡ Some rule = sym there.1 ∙ i in cc in
+    let inside : rule.to < length g.prods = subst (λ (z : Rule). z.to < length g.prods) same there.2 in
+    (ap (λ (x : List ParseTree). outcome_of (tasks g ks stack 0 x 0)) t
+    ∙ ap (λ (a : Answer). outcome_of a) (did_call g ks [] stack 0 0 [] 0 r rule inner i l all ∙ then_none g ks (of_production g ks (whole g ks) 0 (Some (Call r)) 0 [] 0)), rw all (tt, (inside, tt)))

@@ -1,5 +1,5 @@
 -- Of a whole list exactly one verdict holds, and it is what the outcome of the start rule says.
-use Rattle.std.proofs.Common.{◌≡◌, ◌≢◌, ℕ, ◌+◌, ◌-◌, ◌<◌, ◌≤◌, List, [], ◌∷◌, ◌++◌, length, Option, Some, None, Result, Ok, Err, slice_get, refl, sym, ap, ◌∙◌, arith, subst, ⊎_elim}
+use Rattle.std.proofs.Common.{◌≡◌, ◌≢◌, ℕ, ◌+◌, ◌-◌, ◌<◌, ◌≤◌, List, [], ◌∷◌, ◌++◌, length, Option, Some, None, Result, Ok, Err, IfOk, IfErr, MatchResult, slice_get, refl, sym, ap, ◌∙◌, arith, subst, ⊎_elim}
 use Rattle.std.proofs.lemmas.Bool.{cases_lt}
 use Rattle.grammar_core.specs.declared.table.Table.{Table}
 use Rattle.grammar_core.specs.declared.table.Prod.TheVariants.{Call}
@@ -114,3 +114,93 @@ module _ (g : Table) (ks : List ℕ) where
         let s : Some k.0 ≡ Some a = sym (known_at (GivesProd g ks (Call r) 0 0) (λ done n. of_production g ks (λ q l from so_far m. whole g ks q l from so_far m) 0 (Some (Call r)) 0 done n) k 0) ∙ e in
         let same : k.0 ≡ a = cc in
         subst (λ (x : Outcome). Means (length ks) x verdict.0) same verdict.1
+
+-- what the parser answers for an outcome of the start rule
+pub tells_whole : (len to : ℕ) (trees : List ParseTree) (nodes : List Node) (v : Verdict) → Means len (Outcome.ends to trees) v → to ≡ len → slice_get trees (length trees - 1) ≡ Some (root_tree nodes) → Tells (Ok nodes) v
+tells_whole len to trees nodes (Verdict.derived tree) m e r =
+    let s : Some tree ≡ Some (root_tree nodes) = ap (λ (l : List ParseTree). slice_get l (length l - 1)) (sym m.1) ∙ r in
+    let same : tree ≡ root_tree nodes = cc in sym same
+tells_whole len to trees nodes (Verdict.stuck at) m e r = absurd (m.1 e)
+tells_whole len to trees nodes (Verdict.deep at) m e r = absurd m
+
+pub tells_front : (len to : ℕ) (trees : List ParseTree) (v : Verdict) → Means len (Outcome.ends to trees) v → to ≢ len → Tells (Err (fault.Stuck to)) v
+tells_front len to trees (Verdict.derived tree) m e = absurd (e m.0)
+tells_front len to trees (Verdict.stuck at) m e = m.0
+tells_front len to trees (Verdict.deep at) m e = absurd m
+
+tells_stuck : (len x : ℕ) (v : Verdict) → Means len (Outcome.stuck x) v → Tells (Err (fault.Stuck x)) v
+tells_stuck len x (Verdict.derived tree) m = absurd m
+tells_stuck len x (Verdict.stuck at) m = m
+tells_stuck len x (Verdict.deep at) m = absurd m
+
+tells_deep : (len x : ℕ) (v : Verdict) → Means len (Outcome.deep x) v → Tells (Err (fault.Deep x)) v
+tells_deep len x (Verdict.derived tree) m = absurd m
+tells_deep len x (Verdict.stuck at) m = absurd m
+tells_deep len x (Verdict.deep at) m = m
+
+-- the three clauses of the parser
+pub record IsParsed (g : Table) (ks : List ℕ) (r : ℕ) (res : Result (List Node) ParseFault) : Type 0 where
+  pub ok : IfOk res (λ t. Derives g ks r (root_tree t))
+  pub err : IfErr res (IsFaultOf g ks r)
+  pub only : (v : Verdict) → Holds g ks r v → Tells res v
+
+ok_of : (g : Table) (ks : List ℕ) (r : ℕ) (res : Result (List Node) ParseFault) (v : Verdict) → Holds g ks r v → Tells res v → IfOk res (λ t. Derives g ks r (root_tree t))
+ok_of g ks r (Ok nodes) (Verdict.derived tree) h t = subst (λ (x : ParseTree). Derives g ks r x) (sym t) h
+ok_of g ks r (Ok nodes) (Verdict.stuck at) h t = absurd t
+ok_of g ks r (Ok nodes) (Verdict.deep at) h t = absurd t
+ok_of g ks r (Err e) v h t = tt
+
+err_of : (g : Table) (ks : List ℕ) (r : ℕ) (res : Result (List Node) ParseFault) (v : Verdict) → Holds g ks r v → Tells res v → IfErr res (IsFaultOf g ks r)
+err_of g ks r (Ok nodes) v h t = tt
+err_of g ks r (Err fault.Memory) v h t = tt
+err_of g ks r (Err (fault.Stuck x)) (Verdict.derived tree) h t = absurd t
+err_of g ks r (Err (fault.Stuck x)) (Verdict.stuck at) h t = subst (λ (y : ℕ). Stuck g ks r y) (sym t) h
+err_of g ks r (Err (fault.Stuck x)) (Verdict.deep at) h t = absurd t
+err_of g ks r (Err (fault.Deep x)) (Verdict.derived tree) h t = absurd t
+err_of g ks r (Err (fault.Deep x)) (Verdict.stuck at) h t = absurd t
+err_of g ks r (Err (fault.Deep x)) (Verdict.deep at) h t = subst (λ (y : ℕ). Deep g ks r y) (sym t) h
+
+module _ (g : Table) (ks : List ℕ) (fit : IsFit g) (r : ℕ) (inside : r < length g.rules) where
+  pub parsed : (res : Result (List Node) ParseFault) → Tells res (verdict g ks fit r inside).0 → IsParsed g ks r res
+  unfolding holds_one verdict
+  parsed res t =
+      let one = holds_one g ks fit r inside in
+      let v : Verdict = one.it in
+      record {
+        ok = ok_of g ks r res v one.holds t;
+        err = err_of g ks r res v one.holds t;
+        only = λ w h. subst (λ (x : Verdict). Tells res x) (one.only w h) t;
+      }
+
+  abbrev pub Computed : Answer
+  Computed = of_production g ks (λ q l from so_far m. whole g ks q l from so_far m) 0 (Some (Call r)) 0 [] 0
+
+  -- an error of the reading
+  pub parsed_err : (e : ParseFault) (trees : List ParseTree) → Meets (Err e) trees Computed → IsParsed g ks r (Err e)
+  parsed_err fault.Memory trees m = parsed (Err fault.Memory) (memory (verdict g ks fit r inside).0)
+    where
+      memory : (v : Verdict) → Tells (Err fault.Memory) v
+      memory (Verdict.derived tree) = tt
+      memory (Verdict.stuck at) = tt
+      memory (Verdict.deep at) = tt
+  parsed_err (fault.Stuck x) trees m = parsed (Err (fault.Stuck x)) (tells_stuck (length ks) x (verdict g ks fit r inside).0 (means_computed g ks fit r inside (Outcome.stuck x) m))
+  parsed_err (fault.Deep x) trees m = parsed (Err (fault.Deep x)) (tells_deep (length ks) x (verdict g ks fit r inside).0 (means_computed g ks fit r inside (Outcome.deep x) m))
+
+  pub parsed_front : (to : ℕ) (trees : List ParseTree) → Meets (Ok to) trees Computed → to ≢ length ks → IsParsed g ks r (Err (fault.Stuck to))
+  parsed_front to trees m e = parsed (Err (fault.Stuck to)) (tells_front (length ks) to trees (verdict g ks fit r inside).0 (means_computed g ks fit r inside (Outcome.ends to trees) m) e)
+
+  pub parsed_whole : (to : ℕ) (trees : List ParseTree) (nodes : List Node) → Meets (Ok to) trees Computed → to ≡ length ks → slice_get trees (length trees - 1) ≡ Some (root_tree nodes) → IsParsed g ks r (Ok nodes)
+  parsed_whole to trees nodes m e root = parsed (Ok nodes) (tells_whole (length ks) to trees nodes (verdict g ks fit r inside).0 (means_computed g ks fit r inside (Outcome.ends to trees) m) e root)
+
+  -- there is a tree where the reading ended
+  pub some_tree : (to : ℕ) (trees : List ParseTree) → Meets (Ok to) trees Computed → 0 < length trees
+  some_tree to trees m =
+      let k = start_known g fit ks r 0 0 inside in
+      let s : Some k.0 ≡ Some (Outcome.ends to trees) = sym (known_at (GivesProd g ks (Call r) 0 0) (λ done n. of_production g ks (λ q l from so_far i. whole g ks q l from so_far i) 0 (Some (Call r)) 0 done n) k 0) ∙ m in
+      let same : k.0 ≡ Outcome.ends to trees = cc in
+      let one : IsSingle (Outcome.ends to trees) = subst (λ (a : Outcome). IsSingle a) same (call_single g ks r 0 0 k.0 k.1) in
+      let e = ap (λ (l : List ParseTree). length l) one.1 in omega (arith, e)
+
+  pub parsed_tree : (to : ℕ) (trees : List ParseTree) (res : Result (List Node) ParseFault) → Meets (Ok to) trees Computed → to ≡ length ks → MatchResult res (λ t. slice_get trees (length trees - 1) ≡ Some (root_tree t)) (λ e. e ≡ fault.Memory) → IsParsed g ks r res
+  parsed_tree to trees (Ok nodes) m e root = parsed_whole to trees nodes m e root
+  parsed_tree to trees (Err x) m e root = rw root (parsed_err fault.Memory [] tt)

@@ -23,10 +23,9 @@ pub fn parse(
     ensures only { (v : Verdict) → Holds g.now (kinds tokens.now) start v → Tells result v }
 {
     let mut built = Builder::new(alloc);
-    let to = run(alloc, g.table(), tokens, start, &mut built)?;
-    if to as usize == tokens.len() {
-        built.into_tree()
-    } else {
-        Err(ParseFault::Stuck { token: to })
+    match run(alloc, g.table(), tokens, start, &mut built) {
+        Ok(to) if to as usize == tokens.len() => built.into_tree(),
+        Ok(to) => Err(ParseFault::Stuck { token: to }),
+        Err(e) => Err(e),
     }
 }
