@@ -42,7 +42,7 @@ Fits g p (Some (Seq ps)) = AllBelow g p ps
 Fits g p (Some (Case bs other)) = AllBelow g p (choices bs other)
 Fits g p (Some (Star firsts q)) = IsBelow g p q × (MayBeEmpty g q → ⊥)
 
-all_inside_at : (n : ℕ) (rules : List ℕ) → IsTrue (all_inside n rules) → (r q : ℕ) → slice_get rules r ≡ Some q → q < n
+pub all_inside_at : (n : ℕ) (rules : List ℕ) → IsTrue (all_inside n rules) → (r q : ℕ) → slice_get rules r ≡ Some q → q < n
 all_inside_at n [] h r q e = (cc)
 all_inside_at n (x ∷ xs) h r q e = by_test (all_inside_at n xs) (nat_lt x n) refl h r e
   where

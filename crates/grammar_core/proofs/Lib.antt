@@ -12,3 +12,5 @@ pub mod Stack
 pub mod Verdicts
 pub mod Nodes
 pub mod Building
+pub mod Emptiness
+pub mod Unfitness

@@ -30,19 +30,19 @@ set_length [] q = refl
 set_length (b ∷ bs) zero = refl
 set_length (b ∷ bs) (suc q) = ap suc (set_length bs q)
 
-set_keeps : (seen : List Bool) (q r : ℕ) → is_marked seen r ≡ true → is_marked (set_mark seen q) r ≡ true
+pub set_keeps : (seen : List Bool) (q r : ℕ) → is_marked seen r ≡ true → is_marked (set_mark seen q) r ≡ true
 set_keeps [] q r e = e
 set_keeps (b ∷ bs) zero zero e = refl
 set_keeps (b ∷ bs) zero (suc r) e = e
 set_keeps (b ∷ bs) (suc q) zero e = e
 set_keeps (b ∷ bs) (suc q) (suc r) e = set_keeps bs q r e
 
-set_marks : (seen : List Bool) (q : ℕ) → q < length seen → is_marked (set_mark seen q) q ≡ true
+pub set_marks : (seen : List Bool) (q : ℕ) → q < length seen → is_marked (set_mark seen q) q ≡ true
 set_marks [] q h = absurd (omega arith)
 set_marks (b ∷ bs) zero h = refl
 set_marks (b ∷ bs) (suc q) h = set_marks bs q (omega arith)
 
-set_only : (seen : List Bool) (q r : ℕ) → is_marked (set_mark seen q) r ≡ true → (is_marked seen r ≡ true) ⊎ ((r ≡ q) × (q < length seen))
+pub set_only : (seen : List Bool) (q r : ℕ) → is_marked (set_mark seen q) r ≡ true → (is_marked seen r ≡ true) ⊎ ((r ≡ q) × (q < length seen))
 set_only [] q r e = inl e
 set_only (b ∷ bs) zero zero e = inr (refl, omega arith)
 set_only (b ∷ bs) zero (suc r) e = inl e
@@ -135,7 +135,7 @@ module _ (graph : List (List ℕ)) (p : ℕ) where
   pub row_done : (seen : List Bool) → length seen ≡ length graph → Sound seen → Started seen → sweep seen 0 graph ≡ seen → IsRow graph p seen
   row_done seen long sound started same = record { long = long; sound = sound; complete = complete seen long started same }
 
-none_marked : (n q : ℕ) → is_marked (replicate n false) q ≡ true → ⊥
+pub none_marked : (n q : ℕ) → is_marked (replicate n false) q ≡ true → ⊥
 none_marked zero q e = (cc)
 none_marked (suc n) zero e = (cc)
 none_marked (suc n) (suc q) e = none_marked n q e
