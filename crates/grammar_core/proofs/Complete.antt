@@ -17,7 +17,6 @@ then_none (Answer.stuck at n) next h = (cc)
 then_none (Answer.deep at n) next h = (cc)
 then_none (Answer.spent n) next h = refl
 
-
 pub then_some : (a : Answer) (next : Reading) (to : ℕ) (done : List ParseTree) (P : Answer → Type 0) → outcome_of a ≡ Some (Outcome.ends to done) → ((n : ℕ) → P (next to done n)) → P (then_at a next)
 then_some (Answer.ends to' done' n) next to done P h k =
     let e : to ≡ to' = cc in

@@ -47,6 +47,7 @@ module _ (a b : List Bool) (w : Within a b) where
       keep : (v r : Bool) → r ≡ true → cond v true r ≡ true
       keep true r e = refl
       keep false r e = e
+
       by_first : (v : Bool) → is_marked a q ≡ v → cond v true (any_marked a qs) ≡ true → (any_marked a qs ≡ true → any_marked b qs ≡ true) → cond (is_marked b q) true (any_marked b qs) ≡ true
       by_first true i e rest = rw (w q i) refl
       by_first false i e rest = keep (is_marked b q) (any_marked b qs) (rest e)

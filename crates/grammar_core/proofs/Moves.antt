@@ -72,6 +72,7 @@ module _ (g : Table) (ks : List ℕ) (one : ℕ → ℕ → Reading) (level : �
     where
       called : (l : ℕ) → MovedBy (IsEmptyProd g (Call r)) at (close r done (one rule.to l at done n))
       called l = close_moved (IsEmptyProd g (Call r)) at r done (one rule.to l at done n) (weaker (MayBeEmpty g rule.to) (IsEmptyProd g (Call r)) at (one rule.to l at done n) (λ m. IsEmptyProd.call r rule.to (rule_at-to g r rule e) m) (moves rule.to l at done n))
+
       by_nests : (b v : Bool) → MovedBy (IsEmptyProd g (Call r)) at (cond b (cond v (close r done (one rule.to (level + 1) at done n)) (Answer.deep at n)) (close r done (one rule.to level at done n)))
       by_nests true true = called (level + 1)
       by_nests true false = tt

@@ -163,6 +163,8 @@ started g fit ks trees none stack r inner rule t n h i l s =
     let all : stack ≡ ([] ++ (Close r 0 ∷ [])) ++ (Read rule.to inner ∷ []) = s ∙ ap (λ (x : List Task). (x ++ (Close r 0 ∷ [])) ++ (Read rule.to inner ∷ [])) n in
     let there = rule_there g fit r h in
     let same : there.0 ≡ rule = let e : Some there.0 ≡ Some rule = sym there.1 ∙ i in cc in
-    let inside : rule.to < length g.prods = subst (λ (z : Rule). z.to < length g.prods) same there.2 in
-    (ap (λ (x : List ParseTree). outcome_of (tasks g ks stack 0 x 0)) t
-    ∙ ap (λ (a : Answer). outcome_of a) (did_call g ks [] stack 0 0 [] 0 r rule inner i l all ∙ then_none g ks (of_production g ks (whole g ks) 0 (Some (Call r)) 0 [] 0)), rw all (tt, (inside, tt)))
+    let inside : rule.to < length g.prods = subst (λ (z : Rule). z.to < length g.prods) same there.2 in (
+      ap (λ (x : List ParseTree). outcome_of (tasks g ks stack 0 x 0)) t
+          ∙ ap (λ (a : Answer). outcome_of a) (did_call g ks [] stack 0 0 [] 0 r rule inner i l all ∙ then_none g ks (of_production g ks (whole g ks) 0 (Some (Call r)) 0 [] 0)),
+      rw all (tt, (inside, tt)),
+    )

@@ -76,10 +76,12 @@ module _ (g : Table) (p : ℕ) (x : Prod) (is : slice_get g.prods p ≡ Some x) 
       by_nests : (r q : ℕ) (n : Bool) → slice_get g.prods p ≡ Some (Call r) → slice_get g.rules r ≡ Some q → slice_get g.nests r ≡ Some n → ComesBack g q n → Unfit g p
       by_nests r q true i e f h = absurd h
       by_nests r q false i e f h = Unfit.own_call r q i e f h
+
       by_rule : (r : ℕ) → slice_get g.prods p ≡ Some (Call r) → (a : Option ℕ) (b : Option Bool) → slice_get g.rules r ≡ a → slice_get g.nests r ≡ b → RuleComesBack g (rule_from a b) → Unfit g p
       by_rule r i None b e f h = absurd h
       by_rule r i (Some q) None e f h = absurd h
       by_rule r i (Some q) (Some n) e f h = by_nests r q n i e f h
+
       from : (y : Prod) → slice_get g.prods p ≡ Some y → CallComesBack g y → Unfit g p
       from (Tok k) i h = absurd h
       from (Call r) i h = by_rule r i (slice_get g.rules r) (slice_get g.nests r) refl refl h

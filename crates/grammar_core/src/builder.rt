@@ -64,7 +64,11 @@ impl Builder {
         let start = self.waiting.len().min(start as usize);
         let first = self.nodes.len() as u64;
         let count = (self.waiting.len() - start) as u64;
-        if self.nodes.extend_from_slice(&self.waiting[start..]).is_err() {
+        if self
+            .nodes
+            .extend_from_slice(&self.waiting[start..])
+            .is_err()
+        {
             return Err(ParseFault::Memory);
         }
         self.waiting.truncate(start);
@@ -76,7 +80,10 @@ impl Builder {
         requires { 0 < length (read_trees self) }
         ensures { MatchResult result (λ t. slice_get (read_trees self) (length (read_trees self) - 1) ≡ Some (root_tree t)) (λ e. e ≡ ParseFault.Memory) }
     {
-        let Builder { mut nodes, mut waiting } = self;
+        let Builder {
+            mut nodes,
+            mut waiting,
+        } = self;
         match waiting.pop() {
             Some(root) => {
                 put(&mut nodes, root)?;

@@ -42,13 +42,7 @@ fn put_all(stack: &mut Vec<Task>, level: u32, ps: &[u16]) -> Result<(), ParseFau
     Ok(())
 }
 
-fn put_rule(
-    stack: &mut Vec<Task>,
-    r: u16,
-    start: u64,
-    q: u16,
-    level: u32,
-) -> Result<(), ParseFault>
+fn put_rule(stack: &mut Vec<Task>, r: u16, start: u64, q: u16, level: u32) -> Result<(), ParseFault>
     ensures { MatchResult result (λ u. stack.new.items ≡ (stack.old.items ++ Task.Close r start ∷ []) ++ Task.Read q level ∷ []) (λ e. e ≡ ParseFault.Memory) }
 {
     put(stack, Task::Close(r, start))?;

@@ -10,12 +10,7 @@ use std::alloc::Global;
 use use_text::Token;
 
 /// Parses all the tokens as the rule `start`, with at most 200 rules that nest open at a time.
-pub fn parse(
-    alloc: Global,
-    g: &Grammar,
-    start: u16,
-    tokens: &[Token],
-) -> Result<Tree, ParseFault>
+pub fn parse(alloc: Global, g: &Grammar, start: u16, tokens: &[Token]) -> Result<Tree, ParseFault>
     requires rule { start < length g.now.rules }
     requires few { length tokens.now < 2 ^ 32 }
     ensures ok { IfOk result (λ t. Derives g.now (kinds tokens.now) start (root_tree t)) }

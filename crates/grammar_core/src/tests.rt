@@ -1,4 +1,4 @@
-ghost use Rattle.std.specs.Prelude.{◌≡◌, ◌<◌, ◌≤◌, ◌^◌, length, IsTrue, IfOk};
+ghost use Rattle.std.specs.Prelude.{◌≡◌, ◌<◌, length, IfOk, IfSome};
 ghost use Rattle.grammar_core.specs.Unfit.{all_inside};
 
 use super::*;
@@ -8,62 +8,113 @@ use use_lists::Items;
 use use_text::{Place, Token};
 
 const END: u16 = 0;
+
 const NAME: u16 = 1;
+
 const PLUS: u16 = 2;
+
 const OPEN: u16 = 3;
+
 const CLOSE: u16 = 4;
 
-fn list(alloc: Global, numbers: &[u16]) -> Result<Items<u16>, AllocError> {
-    Items::from_slice(alloc, numbers)
+/// A production, with slices in place of lists.
+#[derive(Clone, Copy)]
+enum Row {
+    Tok(u16),
+    Call(u16),
+    Seq(&'static [u16]),
+    Case(&'static [(u16, u16)], Option<u16>),
+    Star(u16, u16),
 }
 
-fn branch(alloc: Global, kind: u16, to: u16) -> Result<Branch, AllocError> {
-    Ok(Branch {
-        firsts: list(alloc, &[kind])?,
-        to,
-    })
+fn branches_of(alloc: Global, pairs: &[(u16, u16)]) -> Result<Items<Branch>, AllocError> {
+    let mut branches = Vec::new(alloc);
+    'pairs: for (kind, to) in pairs {
+        branches.push(Branch {
+            firsts: Items::from_slice(alloc, &[*kind])?,
+            to: *to,
+        })?;
+    }
+    Ok(Items::from_vec(branches))
 }
 
-// file := sum End;  sum := atom { '+' atom };  atom := NAME | '(' sum ')', where atom nests
-fn sums(alloc: Global) -> Result<Result<Grammar, GrammarFault>, AllocError>
-    ensures { IfOk result (λ r. IfOk r (λ g. length g.rules ≡ 3)) }
+fn prod_of(alloc: Global, row: Row) -> Result<Prod, AllocError> {
+    match row {
+        Row::Tok(kind) => Ok(Prod::Tok(kind)),
+        Row::Call(rule) => Ok(Prod::Call(rule)),
+        Row::Seq(ps) => Ok(Prod::Seq(Items::from_slice(alloc, ps)?)),
+        Row::Case(pairs, other) => Ok(Prod::Case(branches_of(alloc, pairs)?, other)),
+        Row::Star(kind, q) => Ok(Prod::Star(Items::from_slice(alloc, &[kind])?, q)),
+    }
+}
+
+fn prods_of(alloc: Global, rows: &[Row]) -> Result<Vec<Prod>, AllocError> {
+    let mut prods = Vec::new(alloc);
+    'rows: for row in rows {
+        prods.push(prod_of(alloc, *row)?)?;
+    }
+    Ok(prods)
+}
+
+fn are_inside(count: usize, rules: &[u16]) -> bool
+    ensures { result ≡ all_inside count rules.now }
 {
-    let choice = Items::from_vec(vec![in alloc; branch(alloc, NAME, 9)?, branch(alloc, OPEN, 10)?]?);
-    let prods = vec![
-        in alloc;
-        Prod::Seq(list(alloc, &[1, 2])?),
-        Prod::Call(1),
-        Prod::Tok(END),
-        Prod::Seq(list(alloc, &[4, 5])?),
-        Prod::Call(2),
-        Prod::Star(list(alloc, &[PLUS])?, 6),
-        Prod::Seq(list(alloc, &[7, 4])?),
-        Prod::Tok(PLUS),
-        Prod::Case(choice, None),
-        Prod::Tok(NAME),
-        Prod::Seq(list(alloc, &[11, 1, 12])?),
-        Prod::Tok(OPEN),
-        Prod::Tok(CLOSE)
-    ]?;
-    let rules = vec![in alloc; 0, 3, 8]?;
-    let nests = vec![in alloc; false, false, true]?;
-    Ok(Grammar::new(alloc, prods, rules, nests))
+    'rules: for q in rules {
+        if *q as usize >= count {
+            return false;
+        }
+    }
+    true
 }
 
-fn push_kind(tokens: &mut Vec<Token>, kind: u16) -> Result<(), AllocError> {
-    tokens.push(Token {
+// a grammar with these rules, or the first production that is unfit
+fn grammar_of(
+    alloc: Global,
+    rows: &[Row],
+    rules: &[u16],
+    nests: &[bool],
+) -> Result<Result<Grammar, u16>, Fail>
+    ensures { IfOk result (λ r. IfOk r (λ g. g.rules ≡ rules.now)) }
+{
+    let prods = prods_of(alloc, rows)?;
+    if prods.len() > 65536 || rules.len() != nests.len() || !are_inside(prods.len(), rules) {
+        return Err(Fail::from("no table"));
+    }
+    let rules = Vec::from_slice(alloc, rules)?;
+    let nests = Vec::from_slice(alloc, nests)?;
+    match Grammar::new(alloc, prods, rules, nests) {
+        Ok(g) => Ok(Ok(g)),
+        Err(GrammarFault::Unfit { prod }) => Ok(Err(prod)),
+        Err(GrammarFault::Memory) => Err(Fail::from("memory")),
+    }
+}
+
+// the first unfit production, if there is one
+fn first_unfit(
+    alloc: Global,
+    rows: &[Row],
+    rules: &[u16],
+    nests: &[bool],
+) -> Result<Option<u16>, Fail> {
+    match grammar_of(alloc, rows, rules, nests)? {
+        Ok(_) => Ok(None),
+        Err(prod) => Ok(Some(prod)),
+    }
+}
+
+fn token_of(kind: u16) -> Token {
+    Token {
         kind,
         start: 0,
         end: 0,
         place: Place { line: 1, col: 1 },
-    })?;
-    Ok(())
+    }
 }
 
 fn tokens_of(alloc: Global, kinds: &[u16]) -> Result<Vec<Token>, AllocError> {
     let mut tokens = Vec::new(alloc);
     'kinds: for kind in kinds {
-        push_kind(&mut tokens, *kind)?;
+        tokens.push(token_of(*kind))?;
     }
     Ok(tokens)
 }
@@ -72,163 +123,195 @@ fn tokens_of(alloc: Global, kinds: &[u16]) -> Result<Vec<Token>, AllocError> {
 fn show(t: &Tree, n: NodeNo, out: &mut String) -> Result<(), AllocError>
     requires { n < length t.now }
 {
-    match t.token(n) {
-        Some(at) => write!(out, "{at}"),
-        None => {
-            write!(out, "({}", t.kind(n))?;
-            'children: for i in 0..t.children(n) {
-                if let Some(m) = t.child(n, i) {
-                    out.push_str(" ")?;
-                    show(t, m, out)?;
-                }
-            }
-            out.push_str(")")
+    if let Some(at) = t.token(n) {
+        return write!(out, "{at}");
+    }
+    write!(out, "({}", t.kind(n))?;
+    'children: for i in 0..t.children(n) {
+        if let Some(m) = t.child(n, i) {
+            out.push_str(" ")?;
+            show(t, m, out)?;
         }
+    }
+    out.push_str(")")
+}
+
+fn answer_of(alloc: Global, given: &Result<Tree, ParseFault>) -> Result<String, AllocError> {
+    match given {
+        Ok(t) => {
+            let mut out = String::new(alloc);
+            show(t, t.root(), &mut out)?;
+            Ok(out)
+        }
+        Err(e) => format!(in alloc; "{e}"),
     }
 }
 
-fn answer(
+// what the rule 0 of a table makes of tokens of these kinds
+fn parsed(
     alloc: Global,
-    g: &Grammar,
-    start: u16,
-    tokens: &[Token],
-) -> Result<String, AllocError>
-    requires rule { start < length g.now.rules }
-    requires few { length tokens.now < 2 ^ 32 }
-{
-    let mut out = String::new(alloc);
-    match parse(alloc, g, start, tokens) {
-        Ok(t) => show(&t, t.root(), &mut out)?,
-        Err(ParseFault::Memory) => out.push_str("memory")?,
-        Err(ParseFault::Stuck { token }) => write!(out, "stuck {token}")?,
-        Err(ParseFault::Deep { token }) => write!(out, "deep {token}")?,
+    rows: &[Row],
+    rules: &[u16],
+    nests: &[bool],
+    kinds: &[u16],
+) -> Result<String, Fail> {
+    let tokens = tokens_of(alloc, kinds)?;
+    if rules.is_empty() || tokens.len() > 1_000_000 {
+        return Err(Fail::from("no rule, or too long"));
     }
-    Ok(out)
+    match grammar_of(alloc, rows, rules, nests)? {
+        Ok(g) => Ok(answer_of(alloc, &parse(alloc, &g, 0, tokens.as_slice()))?),
+        Err(_) => Err(Fail::from("unfit")),
+    }
 }
+
+// file := sum End;  sum := atom { '+' atom };  atom := NAME | '(' sum ')', where atom nests
+const SUMS: [Row; 13] = [
+    Row::Seq(&[1, 2]),
+    Row::Call(1),
+    Row::Tok(END),
+    Row::Seq(&[4, 5]),
+    Row::Call(2),
+    Row::Star(PLUS, 6),
+    Row::Seq(&[7, 4]),
+    Row::Tok(PLUS),
+    Row::Case(&[(NAME, 9), (OPEN, 10)], None),
+    Row::Tok(NAME),
+    Row::Seq(&[11, 1, 12]),
+    Row::Tok(OPEN),
+    Row::Tok(CLOSE),
+];
 
 #[test]
 fn sums_have_the_trees_that_the_table_derives(rt: HostRuntime) -> Result<(), Fail> {
-    let alloc = rt.alloc();
-    let g = match sums(alloc)? {
-        Ok(g) => g,
-        Err(_) => return Err(Fail::from("unfit")),
-    };
     let rows: [(&[u16], &str); 12] = [
         (&[NAME, END], "(0 (1 (2 0)) 1)"),
         (&[NAME, PLUS, NAME, END], "(0 (1 (2 0) 1 (2 2)) 3)"),
-        (&[NAME, PLUS, NAME, PLUS, NAME, END], "(0 (1 (2 0) 1 (2 2) 3 (2 4)) 5)"),
+        (
+            &[NAME, PLUS, NAME, PLUS, NAME, END],
+            "(0 (1 (2 0) 1 (2 2) 3 (2 4)) 5)",
+        ),
         (&[OPEN, NAME, CLOSE, END], "(0 (1 (2 0 (1 (2 1)) 2)) 3)"),
-        (&[OPEN, NAME, PLUS, NAME, CLOSE, PLUS, NAME, END], "(0 (1 (2 0 (1 (2 1) 2 (2 3)) 4) 5 (2 6)) 7)"),
-        (&[END], "stuck 0"),
-        (&[PLUS, END], "stuck 0"),
-        (&[NAME, PLUS, END], "stuck 2"),
-        (&[NAME, NAME, END], "stuck 1"),
-        (&[OPEN, NAME, END], "stuck 2"),
-        (&[NAME, END, NAME, END], "stuck 2"),
-        (&[NAME], "stuck 1"),
+        (
+            &[OPEN, NAME, PLUS, NAME, CLOSE, PLUS, NAME, END],
+            "(0 (1 (2 0 (1 (2 1) 2 (2 3)) 4) 5 (2 6)) 7)",
+        ),
+        (&[END], "no branch allows token 0"),
+        (&[PLUS, END], "no branch allows token 0"),
+        (&[NAME, PLUS, END], "no branch allows token 2"),
+        (&[NAME, NAME, END], "no branch allows token 1"),
+        (&[OPEN, NAME, END], "no branch allows token 2"),
+        (&[NAME, END, NAME, END], "no branch allows token 2"),
+        (&[NAME], "no branch allows token 1"),
     ];
     'rows: for (kinds, want) in rows {
-        let tokens = tokens_of(alloc, kinds)?;
-        let got = answer(alloc, &g, 0, tokens.as_slice())?;
+        let got = parsed(rt.alloc(), &SUMS, &[0, 3, 8], &[false, false, true], kinds)?;
         assert_eq!(rt; got.as_str(), want);
     }
     Ok(())
+}
+
+// a name in that many parentheses
+fn nested_kinds(alloc: Global, depth: u32) -> Result<Vec<u16>, AllocError> {
+    let mut kinds = Vec::new(alloc);
+    'open: for _ in 0..depth {
+        kinds.push(OPEN)?;
+    }
+    kinds.push(NAME)?;
+    'close: for _ in 0..depth {
+        kinds.push(CLOSE)?;
+    }
+    kinds.push(END)?;
+    Ok(kinds)
 }
 
 #[test]
 fn two_hundred_levels_are_read_and_one_more_is_too_deep(rt: HostRuntime) -> Result<(), Fail> {
-    let alloc = rt.alloc();
-    let g = match sums(alloc)? {
-        Ok(g) => g,
-        Err(_) => return Err(Fail::from("unfit")),
-    };
-    'depths: for (depth, want) in [(199u32, "ok"), (200, "deep 200"), (201, "deep 200")] {
-        let mut tokens = Vec::new(alloc);
-        'open: for _ in 0..depth {
-            push_kind(&mut tokens, OPEN)?;
+    'depths: for (depth, want) in [(199u32, None), (200, Some(200u32)), (300, Some(200))] {
+        let kinds = nested_kinds(rt.alloc(), depth)?;
+        let got = parsed(
+            rt.alloc(),
+            &SUMS,
+            &[0, 3, 8],
+            &[false, false, true],
+            kinds.as_slice(),
+        )?;
+        match want {
+            None => assert!(rt;
+                got.as_str().starts_with("(0 (1 (2 0 (1 (2 1"),
+                "at {depth}"
+            ),
+            Some(token) => assert_eq!(rt;
+                got,
+                format!(in rt.alloc(); "token {token} is nested too deep")?,
+                "at {depth}"
+            ),
         }
-        push_kind(&mut tokens, NAME)?;
-        'close: for _ in 0..depth {
-            push_kind(&mut tokens, CLOSE)?;
-        }
-        push_kind(&mut tokens, END)?;
-        let got = match parse(alloc, &g, 0, tokens.as_slice()) {
-            Ok(_) => format!(in alloc; "ok")?,
-            Err(ParseFault::Deep { token }) => format!(in alloc; "deep {token}")?,
-            Err(e) => format!(in alloc; "{e}")?,
-        };
-        assert_eq!(rt; got.as_str(), want);
     }
     Ok(())
 }
 
-// the answer for these productions, with one rule that is the first of them
-fn first_fault(alloc: Global, prods: Vec<Prod>, nests: bool) -> Result<Option<u16>, AllocError>
-    requires few { length prods.items ≤ 65536 }
-    requires some { 0 < length prods.items }
-{
-    let rules = vec![in alloc; 0]?;
-    let nests = vec![in alloc; nests]?;
-    match Grammar::new(alloc, prods, rules, nests) {
-        Ok(_) => Ok(None),
-        Err(GrammarFault::Unfit { prod }) => Ok(Some(prod)),
-        Err(GrammarFault::Memory) => Err(AllocError),
-    }
-}
-
 #[test]
 fn the_first_unfit_production_is_named(rt: HostRuntime) -> Result<(), Fail> {
-    let alloc = rt.alloc();
-    // numbers outside their tables, before and behind other unfit productions
-    let prods = vec![in alloc; Prod::Tok(1), Prod::Seq(list(alloc, &[0, 4])?), Prod::Call(1), Prod::Seq(list(alloc, &[3])?)]?;
-    assert_eq!(rt; first_fault(alloc, prods, false)?, Some(1));
-    let prods = vec![in alloc; Prod::Tok(1), Prod::Call(1), Prod::Seq(list(alloc, &[9])?)]?;
-    assert_eq!(rt; first_fault(alloc, prods, false)?, Some(1));
-    // a Star whose body may derive nothing
-    let prods = vec![in alloc; Prod::Star(list(alloc, &[1])?, 1), Prod::Star(list(alloc, &[1])?, 2), Prod::Tok(1)]?;
-    assert_eq!(rt; first_fault(alloc, prods, false)?, Some(0));
-    let prods = vec![in alloc; Prod::Star(list(alloc, &[1])?, 1), Prod::Seq(list(alloc, &[2])?), Prod::Tok(1)]?;
-    assert_eq!(rt; first_fault(alloc, prods, false)?, None);
-    // productions that come back to themselves without a Call
-    let prods = vec![in alloc; Prod::Tok(1), Prod::Seq(list(alloc, &[0, 2])?), Prod::Case(Items::from_vec(vec![in alloc; branch(alloc, 1, 1)?]?), Some(0))]?;
-    assert_eq!(rt; first_fault(alloc, prods, false)?, Some(1));
-    // a Call that comes back to its rule, unless the rule nests
-    let prods = vec![in alloc; Prod::Seq(list(alloc, &[1, 2])?), Prod::Tok(1), Prod::Call(0)]?;
-    assert_eq!(rt; first_fault(alloc, prods, false)?, Some(2));
-    let prods = vec![in alloc; Prod::Seq(list(alloc, &[1, 2])?), Prod::Tok(1), Prod::Call(0)]?;
-    assert_eq!(rt; first_fault(alloc, prods, true)?, None);
+    let rows: [(&[Row], bool, Option<u16>); 8] = [
+        // a number outside its table, before and behind other unfit productions
+        (
+            &[Row::Tok(1), Row::Seq(&[0, 4]), Row::Call(1), Row::Seq(&[3])],
+            false,
+            Some(1),
+        ),
+        (&[Row::Tok(1), Row::Call(1), Row::Seq(&[9])], false, Some(1)),
+        // a Star whose body may derive nothing, and one whose body may not
+        (
+            &[Row::Star(1, 1), Row::Star(1, 2), Row::Tok(1)],
+            false,
+            Some(0),
+        ),
+        (&[Row::Star(1, 1), Row::Seq(&[2]), Row::Tok(1)], false, None),
+        // a production that comes back to itself without a Call
+        (
+            &[
+                Row::Tok(1),
+                Row::Seq(&[0, 2]),
+                Row::Case(&[(1, 1)], Some(0)),
+            ],
+            false,
+            Some(1),
+        ),
+        (&[Row::Tok(1), Row::Star(1, 1)], false, Some(1)),
+        // a Call that comes back to its rule, unless the rule nests
+        (
+            &[Row::Seq(&[1, 2]), Row::Tok(1), Row::Call(0)],
+            false,
+            Some(2),
+        ),
+        (&[Row::Seq(&[1, 2]), Row::Tok(1), Row::Call(0)], true, None),
+    ];
+    'rows: for (prods, nests, want) in rows {
+        assert_eq!(rt; first_unfit(rt.alloc(), prods, &[0], &[nests])?, want);
+    }
     Ok(())
 }
 
 #[test]
 fn an_optional_part_is_entered_if_its_first_token_is_next(rt: HostRuntime) -> Result<(), Fail> {
-    let alloc = rt.alloc();
-    // 0 := [ 1 2 ] [ 1 ] End, and of two branches that list a token the first is taken
-    let optional = Items::from_vec(vec![in alloc; branch(alloc, NAME, 2)?, branch(alloc, NAME, 4)?]?);
-    let prods = vec![
-        in alloc;
-        Prod::Seq(list(alloc, &[1, 6])?),
-        Prod::Case(optional, Some(3)),
-        Prod::Seq(list(alloc, &[4, 5])?),
-        Prod::Seq(list(alloc, &[])?),
-        Prod::Tok(NAME),
-        Prod::Tok(PLUS),
-        Prod::Tok(END)
-    ]?;
-    let rules = vec![in alloc; 0]?;
-    let nests = vec![in alloc; false]?;
-    let g = match Grammar::new(alloc, prods, rules, nests) {
-        Ok(g) => g,
-        Err(_) => return Err(Fail::from("unfit")),
-    };
+    // [ NAME '+' ] End: of two branches that list a token the first is taken
+    let table = [
+        Row::Seq(&[1, 6]),
+        Row::Case(&[(NAME, 2), (NAME, 4)], Some(3)),
+        Row::Seq(&[4, 5]),
+        Row::Seq(&[]),
+        Row::Tok(NAME),
+        Row::Tok(PLUS),
+        Row::Tok(END),
+    ];
     let rows: [(&[u16], &str); 3] = [
         (&[END], "(0 0)"),
         (&[NAME, PLUS, END], "(0 0 1 2)"),
-        (&[NAME, END], "stuck 1"),
+        (&[NAME, END], "no branch allows token 1"),
     ];
     'rows: for (kinds, want) in rows {
-        let tokens = tokens_of(alloc, kinds)?;
-        let got = answer(alloc, &g, 0, tokens.as_slice())?;
+        let got = parsed(rt.alloc(), &table, &[0], &[false], kinds)?;
         assert_eq!(rt; got.as_str(), want);
     }
     Ok(())

@@ -79,13 +79,7 @@ impl Tree {
     {
         match self.node(n) {
             Node::Token(_, _) => None,
-            Node::Rule(_, first, count) => {
-                if i < count {
-                    Some(first + i)
-                } else {
-                    None
-                }
-            }
+            Node::Rule(_, first, count) => { if i < count { Some(first + i) } else { None } }
         }
     }
 
