@@ -1,16 +1,16 @@
 -- The steps of a builder, over its two lists.
-use Rattle.std.proofs.Common.{◌≡◌, ℕ, ◌+◌, ◌-◌, ◌<◌, ◌≤◌, List, [], ◌∷◌, ◌++◌, length, map, take, drop, min, cond, Bool, true, false, Option, Some, None, Result, Ok, Err, MatchResult, is_ok, slice_get, refl, sym, ap, ◌∙◌, arith, subst, length-append}
+use Rattle.std.proofs.Common.{◌≡◌, ℕ, ◌+◌, ◌-◌, ◌≤◌, List, [], ◌∷◌, ◌++◌, length, map, take, drop, min, cond, false, Some, Result, Ok, Err, MatchResult, is_ok, slice_get, refl, sym, ap, ◌∙◌, arith, subst, length-append}
 use Rattle.std.specs.Result.{is_err}
 use Rattle.std.proofs.Math.Nat.{min-le_left}
-use Rattle.std.proofs.lemmas.List.{length-map, map-append, take_all, length-take-le, length-drop}
+use Rattle.std.proofs.lemmas.List.{length-map, map-append, take_all, length-drop}
 use Rattle.std.proofs.lemmas.Option.{get_or_from_slice_get}
 use Rattle.grammar_core.specs.declared.node.Node.{Node}
 use Rattle.grammar_core.specs.declared.node.Node.TheVariants.{Token, Rule}
 use Rattle.grammar_core.specs.declared.fault.ParseFault.{ParseFault}
 use Rattle.grammar_core.specs.declared.fault.ParseFault.TheVariants.{Memory}
 use Rattle.grammar_core.specs.Trees.{ParseTree, leaf}
-use Rattle.grammar_core.specs.Arena.{tree_with, node_trees, tree_at, root_tree, IsPlaced, ArePlaced, IsArena, IsTree, IsBuilt, Built, read_trees, closed}
-use Rattle.grammar_core.proofs.Nodes.{built, node_tree, node_trees-append, length-node_trees, ArePlaced-more, ArePlaced-take, ArePlaced-drop, ArePlaced-snoc, ArePlaced-last, IsArena-after, read_close, closed_past}
+use Rattle.grammar_core.specs.Arena.{tree_with, node_trees, root_tree, ArePlaced, IsArena, IsTree, IsBuilt, read_trees, closed}
+use Rattle.grammar_core.proofs.Nodes.{built, node_trees-append, length-node_trees, ArePlaced-more, ArePlaced-take, ArePlaced-drop, ArePlaced-snoc, ArePlaced-last, IsArena-after, read_close, closed_past}
 
 -- what `put` leaves
 abbrev Put : Result (Unit {0}) ParseFault → List Node → List Node → Node → Type 0

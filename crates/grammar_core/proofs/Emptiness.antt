@@ -1,6 +1,5 @@
 -- What the sweeps over the productions mark: exactly those that may derive no token.
-use Rattle.std.proofs.Common.{◌≡◌, ℕ, ◌+◌, ◌<◌, ◌≤◌, List, [], ◌∷◌, length, Option, Some, None, Bool, true, false, cond, slice_get, zero, suc, refl, sym, ap, ◌∙◌, arith, subst, inl, inr, ◌⊎◌, ⊎_elim, add-zero, replicate}
-use Rattle.std.proofs.lemmas.List.{length-replicate}
+use Rattle.std.proofs.Common.{◌≡◌, ℕ, ◌+◌, ◌<◌, List, [], ◌∷◌, length, Option, Some, None, Bool, true, false, cond, slice_get, zero, suc, refl, sym, ap, ◌∙◌, arith, subst, inl, inr, ⊎_elim, add-zero, replicate}
 use Rattle.std.proofs.lemmas.Option.{slice_get_within}
 use Rattle.grammar_core.specs.declared.table.Table.{Table}
 use Rattle.grammar_core.specs.declared.table.Prod.{Prod}

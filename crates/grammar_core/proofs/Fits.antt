@@ -1,7 +1,7 @@
 -- What a fit table gives for each production: its parts are inside the table and have smaller ranks, and the body of a Star reads a token.
-use Rattle.std.proofs.Common.{◌≡◌, ℕ, ◌<◌, ◌≤◌, Bool, true, false, List, [], ◌∷◌, length, Option, Some, None, slice_get, zero, suc, refl, sym, ap, ◌∙◌, arith, subst, inl, inr, ⊎_elim, nat_lt, cond, ltb-true, IsTrue}
+use Rattle.std.proofs.Common.{◌≡◌, ℕ, ◌<◌, Bool, true, false, List, [], ◌∷◌, length, Option, Some, None, slice_get, zero, suc, refl, sym, ap, ◌∙◌, arith, subst, inl, inr, ⊎_elim, nat_lt, cond, ltb-true, IsTrue}
 use Rattle.std.proofs.lemmas.Bool.{cases_lt, false≢true}
-use Rattle.std.proofs.lemmas.Option.{slice_get_cases, slice_get_within}
+use Rattle.std.proofs.lemmas.Option.{slice_get_cases}
 use Rattle.grammar_core.specs.declared.table.Table.{Table}
 use Rattle.grammar_core.specs.declared.table.Branch.{Branch}
 use Rattle.grammar_core.specs.declared.table.Rule.{Rule}

@@ -1,16 +1,16 @@
 -- In a fit table each production gives something, and only one thing: what is computed.
-use Rattle.std.proofs.Common.{◌≡◌, ℕ, ◌+◌, ◌-◌, ◌<◌, Bool, true, false, nat_lt, cond, List, [], ◌∷◌, ◌++◌, length, Option, Some, None, slice_get, zero, suc, refl, sym, ap, ◌∙◌, arith, subst, ⊎_elim, append-nil, ltb-true}
+use Rattle.std.proofs.Common.{◌≡◌, ℕ, ◌+◌, ◌-◌, ◌<◌, Bool, true, false, nat_lt, List, [], ◌∷◌, ◌++◌, length, Option, Some, None, slice_get, zero, suc, refl, sym, ap, ◌∙◌, arith, subst, ⊎_elim, append-nil, ltb-true}
 use Rattle.grammar_core.specs.declared.table.Table.{Table}
 use Rattle.grammar_core.specs.declared.table.Branch.{Branch}
 use Rattle.grammar_core.specs.declared.table.Rule.{Rule}
 use Rattle.grammar_core.specs.declared.table.Prod.{Prod}
 use Rattle.grammar_core.specs.declared.table.Prod.TheVariants.{Tok, Call, Seq, Case, Star}
-use Rattle.grammar_core.specs.Tables.{rule_at, choices}
+use Rattle.grammar_core.specs.Tables.{rule_at}
 use Rattle.grammar_core.specs.Trees.{ParseTree, leaf}
 use Rattle.grammar_core.specs.Empty.{MayBeEmpty}
 use Rattle.grammar_core.specs.Unfit.{IsFit}
 use Rattle.grammar_core.specs.Derives.{Outcome, next_is, begins, branch_of, max_level, before, below_rule, level_in, Gives, GivesProd, GivesAll, GivesTimes, GivesOnce}
-use Rattle.grammar_core.specs.Answers.{Answer, Reading, then_at, in_turn, again, close, of_rule, of_production, answer, most_open, whole, outcome_of}
+use Rattle.grammar_core.specs.Answers.{Answer, Reading, in_turn, again, close, of_rule, of_production, answer, most_open, whole, outcome_of}
 use Rattle.grammar_core.proofs.Fits.{IsBelow, AllBelow, OtherBelow, NextFits, RuleFits, Fits, branch_below, fits_at, rule_there}
 use Rattle.grammar_core.proofs.Same.{height, height_low, below, nested}
 use Rattle.grammar_core.proofs.Moves.{Moved, MovedBy, moved}

@@ -14,3 +14,4 @@ pub mod Nodes
 pub mod Building
 pub mod Emptiness
 pub mod Unfitness
+pub mod Yield

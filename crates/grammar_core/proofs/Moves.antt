@@ -5,7 +5,7 @@ use Rattle.grammar_core.specs.declared.table.Branch.{Branch}
 use Rattle.grammar_core.specs.declared.table.Rule.{Rule}
 use Rattle.grammar_core.specs.declared.table.Prod.{Prod}
 use Rattle.grammar_core.specs.declared.table.Prod.TheVariants.{Tok, Call, Seq, Case, Star}
-use Rattle.grammar_core.specs.Tables.{rule_at, choices}
+use Rattle.grammar_core.specs.Tables.{rule_at}
 use Rattle.grammar_core.specs.Trees.{ParseTree, leaf}
 use Rattle.grammar_core.specs.Empty.{MayBeEmpty, IsEmptyProd, AllMayBeEmpty}
 use Rattle.grammar_core.specs.Derives.{next_is, begins, branch_of, max_level}

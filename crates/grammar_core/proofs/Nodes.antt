@@ -1,5 +1,5 @@
 -- Nodes in a list, and the trees that they stand for.
-use Rattle.std.proofs.Common.{◌≡◌, ℕ, ◌+◌, ◌-◌, ◌<◌, ◌≤◌, List, [], ◌∷◌, ◌++◌, length, map, take, drop, min, Option, Some, None, slice_get, zero, suc, refl, sym, ap, ◌∙◌, arith, subst, append_assoc, append-nil, length-append, ⊎_elim}
+use Rattle.std.proofs.Common.{◌≡◌, ℕ, ◌+◌, ◌-◌, ◌<◌, ◌≤◌, List, [], ◌∷◌, ◌++◌, length, map, take, drop, min, Some, slice_get, zero, suc, refl, sym, ap, ◌∙◌, arith, subst, append_assoc, append-nil, length-append, ⊎_elim}
 use Rattle.std.proofs.lemmas.Bool.{cases_lt}
 use Rattle.std.proofs.lemmas.List.{length-map, take-append-le, drop-append-le, take-map, drop-map, map-append, take_all, drop_all, length-take-le, length-drop}
 use Rattle.std.proofs.lemmas.Option.{slice_get_within, slice_get-get_or, get_or_from_slice_get}
@@ -7,7 +7,7 @@ use Rattle.std.proofs.Math.Seq.{drop-append_seam}
 use Rattle.grammar_core.specs.declared.node.Node.{Node}
 use Rattle.grammar_core.specs.declared.node.Node.TheVariants.{Token, Rule}
 use Rattle.grammar_core.specs.Trees.{ParseTree, leaf, node, row_of, trees_of, below}
-use Rattle.grammar_core.specs.Arena.{tree_with, trees_from, node_trees, tree_at, IsPlaced, ArePlaced, IsArena, IsBuilt, Built, read_trees, closed}
+use Rattle.grammar_core.specs.Arena.{tree_with, trees_from, node_trees, tree_at, IsPlaced, ArePlaced, IsArena, Built, read_trees, closed}
 
 part_same : {X : Type 0} (ts more : List X) (first count : ℕ) → first + count ≤ length ts → take count (drop first (ts ++ more)) ≡ take count (drop first ts)
 part_same ts more first count h = ap (λ (l : List _). take count l) (drop-append-le first ts more (omega (arith, h))) ∙ take-append-le count (drop first ts) more (omega (arith, h, length-drop first ts))

@@ -1,14 +1,14 @@
 -- The rank of a production: how many productions it leads to without nesting. In a fit table it falls from each production to those that it reads.
-use Rattle.std.proofs.Common.{◌≡◌, ℕ, ◌+◌, ◌<◌, ◌≤◌, List, [], ◌∷◌, length, map, option_map, Option, Some, None, Bool, true, false, cond, slice_get, zero, suc, refl, sym, ap, ◌∙◌, arith, subst, inl, inr, ◌⊎◌, ⊎_elim, replicate}
+use Rattle.std.proofs.Common.{◌≡◌, ℕ, ◌+◌, ◌<◌, ◌≤◌, List, [], ◌∷◌, length, option_map, Option, Some, None, Bool, true, false, cond, slice_get, zero, suc, refl, sym, ap, ◌∙◌, arith, subst, inl, inr, ◌⊎◌, ⊎_elim, replicate}
 use Rattle.std.proofs.lemmas.List.{length-map, length-replicate}
-use Rattle.std.proofs.lemmas.Option.{slice_get-map, slice_get_cases, slice_get_within}
+use Rattle.std.proofs.lemmas.Option.{slice_get-map, slice_get_cases}
 use Rattle.grammar_core.specs.declared.table.Table.{Table}
 use Rattle.grammar_core.specs.declared.table.Rule.{Rule}
 use Rattle.grammar_core.specs.declared.table.Prod.{Prod}
 use Rattle.grammar_core.specs.declared.table.Prod.TheVariants.{Tok, Call, Seq, Case, Star}
 use Rattle.grammar_core.specs.Tables.{rule_from, rule_at, unnested, next_prods, graph_of}
 use Rattle.grammar_core.specs.Paths.{IsIn, next, row_of, Path, is_marked, unmarked, set_mark, mark_all, sweep, IsRow}
-use Rattle.grammar_core.specs.Unfit.{Unfit, IsFit}
+use Rattle.grammar_core.specs.Unfit.{Unfit}
 use Rattle.grammar_core.proofs.Marking.{Sound, Started, all_length, sweep_length, sweep_is_sound, sweep_is_started, row_done, first_sound, first_started, first_long}
 use Rattle.grammar_core.proofs.Counting.{marks, rank_falls}
 

@@ -1,5 +1,5 @@
 -- Any two bounds on the productions that are open give the same answer, where both are more than a fit table can have open.
-use Rattle.std.proofs.Common.{◌≡◌, ℕ, ◌+◌, ◌-◌, ◌*◌, ◌<◌, ◌≤◌, Bool, true, false, cond, nat_lt, List, [], ◌∷◌, length, Option, Some, None, slice_get, zero, suc, refl, ap, sym, ◌∙◌, arith, suc-mul, ltb-true, subst}
+use Rattle.std.proofs.Common.{◌≡◌, ℕ, ◌+◌, ◌-◌, ◌*◌, ◌<◌, ◌≤◌, Bool, true, false, cond, nat_lt, List, [], ◌∷◌, length, Option, Some, None, slice_get, zero, suc, refl, ap, ◌∙◌, arith, suc-mul, ltb-true}
 use Rattle.std.proofs.Math.Nat.{mul-le-mul_right}
 use Rattle.grammar_core.specs.declared.table.Table.{Table}
 use Rattle.grammar_core.specs.declared.table.Rule.{Rule}
@@ -8,7 +8,7 @@ use Rattle.grammar_core.specs.declared.table.Prod.TheVariants.{Tok, Call, Seq, C
 use Rattle.grammar_core.specs.Tables.{rule_at}
 use Rattle.grammar_core.specs.Trees.{ParseTree}
 use Rattle.grammar_core.specs.Unfit.{IsFit}
-use Rattle.grammar_core.specs.Derives.{begins, branch_of, max_level}
+use Rattle.grammar_core.specs.Derives.{branch_of, max_level}
 use Rattle.grammar_core.specs.Answers.{Answer, Reading, then_at, in_turn, chosen, again, close, of_rule, of_production, answer, most_open, whole}
 use Rattle.grammar_core.proofs.Ranks.{rank, rank_low}
 use Rattle.grammar_core.proofs.Fits.{IsBelow, AllBelow, OtherBelow, NextFits, RuleFits, Fits, branch_below, fits_at}

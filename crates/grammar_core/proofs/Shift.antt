@@ -1,5 +1,5 @@
 -- A reading counts on from the steps before it.
-use Rattle.std.proofs.Common.{◌≡◌, ℕ, ◌+◌, ◌-◌, ◌<◌, Bool, true, false, cond, nat_lt, List, [], ◌∷◌, ◌++◌, length, Option, Some, None, slice_get, zero, suc, refl, sym, ap, ◌∙◌}
+use Rattle.std.proofs.Common.{◌≡◌, ℕ, ◌+◌, ◌-◌, Bool, true, false, cond, nat_lt, List, [], ◌∷◌, length, Option, Some, None, slice_get, zero, suc, refl, ap, ◌∙◌}
 use Rattle.grammar_core.specs.declared.table.Table.{Table}
 use Rattle.grammar_core.specs.declared.table.Rule.{Rule}
 use Rattle.grammar_core.specs.declared.table.Prod.{Prod}
@@ -7,8 +7,8 @@ use Rattle.grammar_core.specs.declared.table.Prod.TheVariants.{Tok, Call, Seq, C
 use Rattle.grammar_core.specs.declared.machine.Task.{Task}
 use Rattle.grammar_core.specs.declared.machine.Task.TheVariants.{Read, Close}
 use Rattle.grammar_core.specs.Tables.{rule_at}
-use Rattle.grammar_core.specs.Trees.{ParseTree, leaf}
-use Rattle.grammar_core.specs.Derives.{Outcome, next_is, begins, branch_of, max_level}
+use Rattle.grammar_core.specs.Trees.{ParseTree}
+use Rattle.grammar_core.specs.Derives.{next_is, begins, branch_of, max_level}
 use Rattle.grammar_core.specs.Answers.{Answer, Reading, then_at, in_turn, chosen, again, close, of_rule, of_production, answer, most_open, whole, outcome_of, steps_of}
 use Rattle.grammar_core.specs.Tasks.{task, tasks_from, tasks}
 

@@ -1,5 +1,5 @@
 -- The tests of a production together say whether it is unfit.
-use Rattle.std.proofs.Common.{◌≡◌, ℕ, ◌<◌, ◌≤◌, ◌↔◌, Bool, true, false, cond, IsTrue, List, [], ◌∷◌, length, Option, Some, None, Result, Ok, Err, IfOk, slice_get, nat_le, refl, sym, ap, ◌∙◌, arith, subst, inl, inr, ⊎_elim, leb}
+use Rattle.std.proofs.Common.{◌≡◌, ℕ, ◌<◌, ◌≤◌, ◌↔◌, Bool, true, false, cond, IsTrue, List, [], ◌∷◌, length, Option, Some, None, Result, Ok, Err, IfOk, slice_get, nat_le, refl, sym, ap, ◌∙◌, arith, subst, inl, inr, ⊎_elim}
 use Rattle.std.proofs.lemmas.Bool.{false≢true}
 use Rattle.std.proofs.lemmas.Bool.Decides.{nat_tests}
 use Rattle.std.proofs.lemmas.Option.{slice_get_within}
@@ -10,7 +10,7 @@ use Rattle.grammar_core.specs.declared.table.Prod.{Prod}
 use Rattle.grammar_core.specs.declared.table.Prod.TheVariants.{Tok, Call, Seq, Case, Star}
 use Rattle.grammar_core.specs.Tables.{rule_from, rule_at, choices, next_prods, graph_of}
 use Rattle.grammar_core.specs.Paths.{IsIn, Path, is_marked}
-use Rattle.grammar_core.specs.Empty.{MayBeEmpty, MarksEmpty}
+use Rattle.grammar_core.specs.Empty.{MarksEmpty}
 use Rattle.grammar_core.specs.Unfit.{Unfit, IsOutside, IsTable}
 use Rattle.grammar_core.specs.Checks.{any_past, outside_by, empty_body_by, ComesBack, RuleComesBack, CallComesBack}
 use Rattle.grammar_core.proofs.Ranks.{graph_length}

@@ -1,5 +1,5 @@
 -- Nodes in a list, as trees: a node names nodes that stand before it.
-use Rattle.std.specs.Prelude.{◌≡◌, ℕ, ◌+◌, ◌-◌, ◌<◌, ◌≤◌, List, [], ◌∷◌, ◌++◌, length, map, take, drop, suc, slice_index_or}
+use Rattle.std.specs.Prelude.{ℕ, ◌+◌, ◌-◌, ◌<◌, ◌≤◌, List, [], ◌∷◌, ◌++◌, length, map, take, drop, suc, slice_index_or}
 use Rattle.grammar_core.specs.declared.node.Node.{Node}
 use Rattle.grammar_core.specs.declared.node.Node.TheVariants.{Token, Rule}
 use Rattle.grammar_core.specs.Trees.{ParseTree, leaf, node, row_of}

@@ -1,5 +1,5 @@
 -- What the parser answers.
-use Rattle.std.specs.Prelude.{◌≡◌, ℕ, List, Result, Ok, Err}
+use Rattle.std.specs.Prelude.{◌≡◌, ◌≤◌, ℕ, List, Result, Ok, Err}
 use Rattle.grammar_core.specs.declared.table.Table.{Table}
 use Rattle.grammar_core.specs.declared.node.Node.{Node}
 use Rattle.grammar_core.specs.declared.fault.ParseFault.{ParseFault}
@@ -12,6 +12,12 @@ abbrev pub IsFaultOf : Table → List ℕ → ℕ → ParseFault → Type 0
 IsFaultOf g ks r fault.Memory = Unit {0}
 IsFaultOf g ks r (fault.Stuck at) = Stuck g ks r at
 IsFaultOf g ks r (fault.Deep at) = Deep g ks r at
+
+-- the place is not past the end of so many tokens
+abbrev pub IsWithin : ℕ → ParseFault → Type 0
+IsWithin n fault.Memory = Unit {0}
+IsWithin n (fault.Stuck at) = at ≤ n
+IsWithin n (fault.Deep at) = at ≤ n
 
 -- the parser's answer is this verdict, unless memory ran out
 abbrev pub Tells : Result (List Node) ParseFault → Verdict → Type 0

@@ -1,5 +1,5 @@
 -- What is still to be done: a stack of tasks, the next one last.
-use Rattle.std.specs.Prelude.{◌≡◌, ℕ, ◌-◌, ◌<◌, List, [], ◌∷◌, ◌++◌, length, map, suc, Result, Ok, Err}
+use Rattle.std.specs.Prelude.{◌≡◌, ℕ, ◌<◌, List, [], ◌∷◌, length, map, suc, Result, Ok, Err}
 use Rattle.grammar_core.specs.declared.table.Table.{Table}
 use Rattle.grammar_core.specs.declared.fault.ParseFault.{ParseFault}
 use Rattle.grammar_core.specs.declared.machine.Task.{Task}

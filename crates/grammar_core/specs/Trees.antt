@@ -1,5 +1,5 @@
 -- Parse trees.
-use Rattle.std.specs.Prelude.{ℕ, List, [], ◌∷◌, Option, Some, None}
+use Rattle.std.specs.Prelude.{ℕ, List, [], ◌∷◌, ◌++◌, Option, Some, None, suc}
 
 -- a row of trees, from left to right
 pub data Row : Type 0 where
@@ -41,3 +41,18 @@ kind_of (node r row) = r
 abbrev pub place_of : ParseTree → Option ℕ
 place_of (leaf k at) = Some at
 place_of (node r row) = None
+
+-- the leaves of a row, from left to right: the kind and the place of each token
+abbrev pub row_leaves : Row → List (ℕ × ℕ)
+row_leaves Row.none = []
+row_leaves (Row.token k at row) = (k, at) ∷ row_leaves row
+row_leaves (Row.rule r below row) = row_leaves below ++ row_leaves row
+
+abbrev pub leaves : ParseTree → List (ℕ × ℕ)
+leaves (leaf k at) = (k, at) ∷ []
+leaves (node r row) = row_leaves row
+
+-- kinds with their places, the first of which is i
+abbrev pub numbered : ℕ → List ℕ → List (ℕ × ℕ)
+numbered i [] = []
+numbered i (k ∷ ks) = (k, i) ∷ numbered (suc i) ks

@@ -1,8 +1,8 @@
 -- Which productions are unfit: those with which a parse need not end with exactly one answer.
-use Rattle.std.specs.Prelude.{◌≡◌, ℕ, ◌<◌, ◌≤◌, Bool, true, false, List, [], ◌∷◌, length, map, Option, Some, None, slice_get, nat_lt, if◌then◌else◌, IsTrue}
+use Rattle.std.specs.Prelude.{◌≡◌, ℕ, ◌<◌, ◌≤◌, Bool, true, false, List, [], ◌∷◌, length, Option, Some, None, slice_get, nat_lt, if◌then◌else◌, IsTrue}
 use Rattle.grammar_core.specs.declared.table.Table.{Table}
 use Rattle.grammar_core.specs.declared.table.Prod.{Prod}
-use Rattle.grammar_core.specs.declared.table.Prod.TheVariants.{Tok, Call, Seq, Case, Star}
+use Rattle.grammar_core.specs.declared.table.Prod.TheVariants.{Call, Star}
 use Rattle.grammar_core.specs.declared.fault.GrammarFault.{GrammarFault}
 use Rattle.grammar_core.specs.declared.fault.GrammarFault.TheVariants.{Memory}
 use Rattle.grammar_core.specs.declared.fault.GrammarFault.TheVariants as fault

@@ -1,6 +1,7 @@
-ghost use Rattle.std.specs.Prelude.{◌<◌, length, List, ℕ};
+ghost use Rattle.std.specs.Prelude.{◌≡◌, ◌<◌, length, List, ℕ};
 ghost use Rattle.grammar_core.specs.declared.table.Table.{Table};
-ghost use Rattle.grammar_core.specs.Derives.{GivesOnce, HoldsOnce};
+ghost use Rattle.grammar_core.specs.Derives.{Derives, GivesOnce, HoldsOnce};
+ghost use Rattle.grammar_core.specs.Trees.{ParseTree, leaves, numbered};
 ghost use Rattle.grammar_core.specs.Unfit.{IsFit};
 
 /// A law: over a fit table each production gives exactly one outcome.
@@ -12,4 +13,9 @@ pub fn gives_once()
 /// deep at one place.
 pub fn holds_once()
     ensures { (g : Table) (ks : List ℕ) (r : ℕ) → IsFit g → r < length g.rules → HoldsOnce g ks r }
+{}
+
+/// A law: the leaves of a tree, from left to right, are all the tokens.
+pub fn leaves_are_tokens()
+    ensures { (g : Table) (ks : List ℕ) (r : ℕ) (tree : ParseTree) → Derives g ks r tree → leaves tree ≡ numbered 0 ks }
 {}

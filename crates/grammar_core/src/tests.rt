@@ -316,3 +316,40 @@ fn an_optional_part_is_entered_if_its_first_token_is_next(rt: HostRuntime) -> Re
     }
     Ok(())
 }
+
+// a sum of one name and so many more
+fn long_kinds(alloc: Global, more: u32) -> Result<Vec<u16>, AllocError> {
+    let mut kinds = Vec::new(alloc);
+    kinds.push(NAME)?;
+    'more: for _ in 0..more {
+        kinds.push(PLUS)?;
+        kinds.push(NAME)?;
+    }
+    kinds.push(END)?;
+    Ok(kinds)
+}
+
+// how many nodes are right below the first node below the root
+fn first_children(alloc: Global, kinds: &[u16]) -> Result<u64, Fail> {
+    let tokens = tokens_of(alloc, kinds)?;
+    if tokens.len() > 1_000_000 {
+        return Err(Fail::from("too long"));
+    }
+    match grammar_of(alloc, &SUMS, &[0, 3, 8], &[false, false, true])? {
+        Ok(g) => match parse(alloc, &g, 0, tokens.as_slice()) {
+            Ok(t) => match t.child(t.root(), 0) {
+                Some(m) => Ok(t.children(m)),
+                None => Ok(0),
+            },
+            Err(_) => Err(Fail::from("no tree")),
+        },
+        Err(_) => Err(Fail::from("unfit")),
+    }
+}
+
+#[test]
+fn a_long_list_is_read_to_its_end(rt: HostRuntime) -> Result<(), Fail> {
+    let kinds = long_kinds(rt.alloc(), 450_000)?;
+    assert_eq!(rt; first_children(rt.alloc(), kinds.as_slice())?, 900_001);
+    Ok(())
+}

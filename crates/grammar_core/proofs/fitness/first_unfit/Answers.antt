@@ -1,4 +1,4 @@
-use Rattle.std.proofs.Common.{ℕ, ◌≡◌, ◌<◌, ◌≤◌, ap, sym, ◌∙◌, arith, length, List, below_more}
+use Rattle.std.proofs.Common.{ap, sym, ◌∙◌, arith, length, List, below_more}
 use Rattle.std.proofs.lemmas.Bool.{false≢true}
 use Rattle.grammar_core.specs.declared.table.Prod.{Prod}
 use Rattle.grammar_core.specs.Unfit.{Unfit}

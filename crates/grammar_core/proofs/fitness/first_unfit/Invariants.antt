@@ -1,5 +1,4 @@
 use Rattle.std.proofs.Common.{ℕ, ◌<◌}
-use Rattle.grammar_core.specs.Empty.{MarksEmpty}
 use Rattle.grammar_core.specs.Unfit.{Unfit}
 use Rattle.grammar_core.proofs.fitness.first_unfit.Given as goal
 

@@ -1,6 +1,4 @@
-use Rattle.grammar_core.proofs.Shift.{tasks_shift}
 use Rattle.grammar_core.proofs.Known.{gives_one}
-use Rattle.grammar_core.proofs.Stack.{fails_all}
 use Rattle.grammar_core.proofs.laws.gives_once.Goals as goal
 
 pub returns : goal.returns

@@ -1,5 +1,4 @@
 use Rattle.grammar_core.proofs.Verdicts.{holds_one}
-use Rattle.grammar_core.proofs.Nodes.{closed_past}
 use Rattle.grammar_core.proofs.laws.holds_once.Goals as goal
 
 pub returns : goal.returns

@@ -1,7 +1,6 @@
-use Rattle.std.proofs.Common.{ℕ, ◌≡◌, ◌++◌, [], ◌∷◌, List, Some, length, arith, sym, subst, ap, ◌∙◌}
+use Rattle.std.proofs.Common.{◌≡◌, [], List, Some, length, arith, sym, subst, ap, ◌∙◌}
 use Rattle.grammar_core.specs.declared.table.Prod.TheVariants.{Call}
 use Rattle.grammar_core.specs.declared.machine.Task.{Task}
-use Rattle.grammar_core.specs.Trees.{ParseTree}
 use Rattle.grammar_core.specs.Arena.{read_trees}
 use Rattle.grammar_core.specs.Derives.{kinds}
 use Rattle.grammar_core.specs.Answers.{Answer, of_production, whole, outcome_of}

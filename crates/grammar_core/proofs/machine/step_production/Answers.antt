@@ -1,12 +1,11 @@
-use Rattle.std.proofs.Common.{rules, ℕ, ◌≡◌, ◌<◌, ◌++◌, [], ◌∷◌, length, reverse, List, Some, None, slice_get, subst, sym, true}
+use Rattle.std.proofs.Common.{ℕ, ◌≡◌, ◌++◌, [], ◌∷◌, length, reverse, List, Some, slice_get, subst, sym, true}
 use Rattle.grammar_core.specs.declared.table.Prod.{Prod}
-use Rattle.grammar_core.specs.declared.table.Prod.TheVariants.{Call}
 use Rattle.grammar_core.specs.declared.machine.Task.TheVariants.{Read, Close}
 use Rattle.grammar_core.specs.Arena.{read_trees}
-use Rattle.grammar_core.specs.Derives.{begins, branch_of, kinds, level_in}
+use Rattle.grammar_core.specs.Derives.{begins, branch_of, kinds}
 use Rattle.grammar_core.specs.Tasks.{reads}
 use Rattle.grammar_core.proofs.Fits.{rule_inside}
-use Rattle.grammar_core.proofs.Stack.{did_seq, did_case, did_star, did_rule, did_not}
+use Rattle.grammar_core.proofs.Stack.{did_seq, did_case, did_star, did_rule}
 use Rattle.grammar_core.proofs.machine.step_production.Goals as goal
 
 pub rule_in-rule-requires-clause-rules : goal.rule_in-rule-requires-clause-rules

@@ -1,4 +1,4 @@
-use Rattle.std.proofs.Common.{◌≡◌, ◌+◌, ◌<◌, ◌≤◌, ◌^◌, ap, length, arith}
+use Rattle.std.proofs.Common.{ap, length, arith}
 use Rattle.grammar_core.specs.declared.node.Node.TheVariants.{Token}
 use Rattle.grammar_core.specs.Trees.{ParseTree, below}
 use Rattle.grammar_core.proofs.Nodes.{tree_at-node, length-below, below_at, placed_at}
