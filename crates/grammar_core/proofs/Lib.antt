@@ -1,0 +1,17 @@
+pub mod Marking
+pub mod Counting
+pub mod Ranks
+pub mod Fits
+pub mod Shift
+pub mod Moves
+pub mod Same
+pub mod Star
+pub mod Complete
+pub mod Known
+pub mod Stack
+pub mod Verdicts
+pub mod Nodes
+pub mod Building
+pub mod Emptiness
+pub mod Unfitness
+pub mod Yield

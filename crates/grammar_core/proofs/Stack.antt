@@ -1,0 +1,170 @@
+-- The stack of tasks: what a step leaves to be done.
+use Rattle.std.proofs.Common.{◌≡◌, ℕ, ◌-◌, ◌<◌, true, List, [], ◌∷◌, ◌++◌, length, reverse, Option, Some, None, slice_get, nat_lt, Err, suc, refl, sym, ap, ◌∙◌, arith, subst, append_assoc, append-nil}
+use Rattle.std.proofs.lemmas.List.{reverse-append}
+use Rattle.std.proofs.lemmas.Option.{slice_get_within}
+use Rattle.grammar_core.specs.declared.table.Table.{Table}
+use Rattle.grammar_core.specs.declared.table.Prod.{Prod}
+use Rattle.grammar_core.specs.declared.table.Prod.TheVariants.{Call, Seq, Case, Star}
+use Rattle.grammar_core.specs.declared.table.Branch.{Branch}
+use Rattle.grammar_core.specs.declared.table.Rule.{Rule}
+use Rattle.grammar_core.specs.declared.machine.Task.{Task}
+use Rattle.grammar_core.specs.declared.machine.Task.TheVariants.{Read, Close}
+use Rattle.grammar_core.specs.declared.fault.ParseFault.{ParseFault}
+use Rattle.grammar_core.specs.declared.fault.ParseFault.TheVariants.{Memory, Stuck, Deep}
+use Rattle.grammar_core.specs.Tables.{rule_at}
+use Rattle.grammar_core.specs.Trees.{ParseTree}
+use Rattle.grammar_core.specs.Empty.{MayBeEmpty}
+use Rattle.grammar_core.specs.Unfit.{IsFit}
+use Rattle.grammar_core.specs.Derives.{Outcome, begins, branch_of, max_level, level_in}
+use Rattle.grammar_core.specs.Answers.{Answer, Reading, then_at, in_turn, again, close, of_production, whole, outcome_of, steps_of, Meets}
+use Rattle.grammar_core.specs.Tasks.{task, tasks_from, tasks, reads, IsTask, AreTasks}
+use Rattle.grammar_core.proofs.Fits.{IsBelow, AllBelow, OtherBelow, branch_below, fits, rule_there}
+use Rattle.grammar_core.proofs.Same.{unroll}
+use Rattle.grammar_core.proofs.Complete.{at_level, at_no_level, stop_some}
+use Rattle.grammar_core.proofs.Star.{star_more}
+use Rattle.grammar_core.proofs.Shift.{later, tasks_shift, outcome_of-later, steps_of-later}
+
+pub last_read : (level p : ℕ) (ps : List ℕ) (ts : List Task) → ts ++ reverse (reads level (p ∷ ps)) ≡ (ts ++ reverse (reads level ps)) ++ (Read p level ∷ [])
+last_read level p ps ts = rw (reverse-append (Read p level ∷ []) (reads level ps)) (sym (append_assoc ts (reverse (reads level ps)) (Read p level ∷ [])))
+
+module _ (g : Table) (ks : List ℕ) where
+  from_snoc : (ts : List Task) (t : Task) (next : Reading) (at : ℕ) (done : List ParseTree) (n : ℕ) → tasks_from g ks (ts ++ (t ∷ [])) next at done n ≡ then_at (task g ks t at done n) (λ to more m. tasks_from g ks ts next to more m)
+  from_snoc [] t next at done n = refl
+  from_snoc (u ∷ us) t next at done n = from_snoc us t (λ to more m. then_at (task g ks u to more m) next) at done n
+
+  -- the last task is the next one
+  pub tasks-snoc : (ts : List Task) (t : Task) (at : ℕ) (done : List ParseTree) (n : ℕ) → tasks g ks (ts ++ (t ∷ [])) at done n ≡ then_at (task g ks t at done n) (λ to more m. tasks g ks ts to more m)
+  unfolding tasks
+  tasks-snoc ts t at done n = from_snoc ts t (λ to more m. Answer.ends to more m) at done n
+
+  pub tasks-all : (level : ℕ) (ps : List ℕ) (ts : List Task) (at : ℕ) (done : List ParseTree) (n : ℕ) → tasks g ks (ts ++ reverse (reads level ps)) at done n ≡ then_at (in_turn (λ q. whole g ks q level) ps at done n) (λ to more m. tasks g ks ts to more m)
+  tasks-all level [] ts at done n = ap (λ (l : List Task). tasks g ks l at done n) (append-nil ts)
+  tasks-all level (p ∷ ps) ts at done n =
+      ap (λ (l : List Task). tasks g ks l at done n) (last_read level p ps ts)
+      ∙ tasks-snoc (ts ++ reverse (reads level ps)) (Read p level) at done n
+      ∙ by_answer (whole g ks p level at done n) (tasks-all level ps ts)
+    where
+      by_answer : (a : Answer) → ((to : ℕ) (more : List ParseTree) (m : ℕ) → tasks g ks (ts ++ reverse (reads level ps)) to more m ≡ then_at (in_turn (λ q. whole g ks q level) ps to more m) (λ x l i. tasks g ks ts x l i))
+          → then_at a (λ to more m. tasks g ks (ts ++ reverse (reads level ps)) to more m) ≡ then_at (then_at a (λ to more m. in_turn (λ q. whole g ks q level) ps to more m)) (λ x l i. tasks g ks ts x l i)
+      by_answer (Answer.ends to more m) same = same to more m
+      by_answer (Answer.stuck x m) same = refl
+      by_answer (Answer.deep x m) same = refl
+      by_answer (Answer.spent m) same = refl
+
+  pub tasks-none : (at : ℕ) (done : List ParseTree) (n : ℕ) → tasks g ks [] at done n ≡ Answer.ends at done n
+  unfolding tasks
+  tasks-none at done n = refl
+
+  pub then_none : (a : Answer) → then_at a (λ to more m. tasks g ks [] to more m) ≡ a
+  then_none (Answer.ends to more m) = tasks-none to more m
+  then_none (Answer.stuck x m) = refl
+  then_none (Answer.deep x m) = refl
+  then_none (Answer.spent m) = refl
+
+  pub AreTasks-snoc : (ts : List Task) (t : Task) → AreTasks g ts → IsTask g t → AreTasks g (ts ++ (t ∷ []))
+  AreTasks-snoc [] t all one = (one, tt)
+  AreTasks-snoc (u ∷ us) t all one = (all.0, AreTasks-snoc us t all.1 one)
+
+  pub AreTasks-last : (ts : List Task) (t : Task) → AreTasks g (ts ++ (t ∷ [])) → AreTasks g ts × IsTask g t
+  AreTasks-last [] t all = (tt, all.0)
+  AreTasks-last (u ∷ us) t all = let r = AreTasks-last us t all.1 in ((all.0, r.0), r.1)
+
+  AreTasks-all : (p level : ℕ) (ps : List ℕ) (ts : List Task) → AllBelow g p ps → AreTasks g ts → AreTasks g (ts ++ reverse (reads level ps))
+  AreTasks-all p level [] ts b all = rw (append-nil ts) all
+  AreTasks-all p level (q ∷ qs) ts b all = rw (last_read level q qs ts) (AreTasks-snoc (ts ++ reverse (reads level qs)) (Read q level) (AreTasks-all p level qs ts b.1 all) b.0.inside)
+
+  -- a rule: its trees are put below it when its production has ended
+  pub tasks-rule : (ts : List Task) (r q level at : ℕ) (done : List ParseTree) (n : ℕ) → tasks g ks ((ts ++ (Close r (length done) ∷ [])) ++ (Read q level ∷ [])) at done n ≡ then_at (close r done (whole g ks q level at done n)) (λ to more m. tasks g ks ts to more m)
+  tasks-rule ts r q level at done n = tasks-snoc (ts ++ (Close r (length done) ∷ [])) (Read q level) at done n ∙ by_answer (whole g ks q level at done n)
+    where
+      by_answer : (a : Answer) → then_at a (λ to more m. tasks g ks (ts ++ (Close r (length done) ∷ [])) to more m) ≡ then_at (close r done a) (λ to more m. tasks g ks ts to more m)
+      by_answer (Answer.ends to more m) = tasks-snoc ts (Close r (length done)) to more m
+      by_answer (Answer.stuck x m) = refl
+      by_answer (Answer.deep x m) = refl
+      by_answer (Answer.spent m) = refl
+
+  module _ (fit : IsFit g) where
+    pub tasks-star : (ts : List Task) (p q level : ℕ) (firsts : List ℕ) (at : ℕ) (done : List ParseTree) (n : ℕ) → slice_get g.prods p ≡ Some (Star firsts q) → p < length g.prods → (MayBeEmpty g q → ⊥) → begins ks at firsts ≡ true
+        → tasks g ks ((ts ++ (Read p level ∷ [])) ++ (Read q level ∷ [])) at done n ≡ then_at (again ks firsts (whole g ks q level) (suc (length ks - at)) at done n) (λ to more m. tasks g ks ts to more m)
+    tasks-star ts p q level firsts at done n is inside never b = tasks-snoc (ts ++ (Read p level ∷ [])) (Read q level) at done n ∙ by_answer (whole g ks q level at done n) refl
+      where
+        by_answer : (a : Answer) → whole g ks q level at done n ≡ a → then_at a (λ to more m. tasks g ks (ts ++ (Read p level ∷ [])) to more m) ≡ then_at (again ks firsts (whole g ks q level) (suc (length ks - at)) at done n) (λ to more m. tasks g ks ts to more m)
+        by_answer (Answer.ends to more m) e =
+            tasks-snoc ts (Read p level) to more m
+            ∙ ap (λ (a : Answer). then_at a (λ x l i. tasks g ks ts x l i)) (unroll g fit ks p level to more m inside ∙ ap (λ (x : Option Prod). of_production g ks (whole g ks) level x to more (suc m)) is ∙ star_more g ks firsts q level never at to done more n m b e)
+        by_answer (Answer.stuck x m) e = rw (b, e) refl
+        by_answer (Answer.deep x m) e = rw (b, e) refl
+        by_answer (Answer.spent m) e = rw (b, e) refl
+
+other_inside : (g : Table) (p q : ℕ) (o : Option ℕ) → o ≡ Some q → OtherBelow g p o → q < length g.prods
+other_inside g p q o e b = let c : IsBelow g p q = subst (λ (x : Option ℕ). OtherBelow g p x) e b in c.inside
+
+-- a rule's two tasks
+pub did_call : (g : Table) (ks : List ℕ) (old new : List Task) (level at : ℕ) (done : List ParseTree) (n r : ℕ) (rule : Rule) (inner : ℕ) → rule_at g r ≡ Some rule → level_in rule level ≡ Some inner → new ≡ (old ++ (Close r (length done) ∷ [])) ++ (Read rule.to inner ∷ [])
+    → tasks g ks new at done n ≡ then_at (of_production g ks (whole g ks) level (Some (Call r)) at done n) (λ to more m. tasks g ks old to more m)
+did_call g ks old new level at done n r rule inner is l e =
+    let same = at_level rule.nests (nat_lt level max_level) level inner l (λ y. close r done (whole g ks rule.to y at done n)) (Answer.deep at n) in
+    rw (e, is) (tasks-rule g ks old r rule.to inner at done n ∙ ap (λ (a : Answer). then_at a (λ to more m. tasks g ks old to more m)) (sym same))
+
+module _ (g : Table) (fit : IsFit g) (ks : List ℕ) (x : Prod) (p level at : ℕ) (done : List ParseTree) (old new : List Task) (is : slice_get g.prods p ≡ Some x) (all : AreTasks g old) where
+  abbrev pub Did : Type 0
+  Did = (tasks g ks new at done 1 ≡ then_at (of_production g ks (whole g ks) level (Some x) at done 1) (λ to more m. tasks g ks old to more m)) × AreTasks g new
+
+  abbrev is_as : (y : Prod) → x ≡ y → slice_get g.prods p ≡ Some y
+  is_as y e = subst (λ (z : Prod). slice_get g.prods p ≡ Some z) e is
+
+  pub did_seq : (ps : List ℕ) → x ≡ Seq ps → new ≡ old ++ reverse (reads level ps) → Did
+  did_seq ps e n = rw (e, n) (tasks-all g ks level ps old at done 1, AreTasks-all g ks p level ps old (fits g fit p (Seq ps) (is_as (Seq ps) e)) all)
+
+  pub did_case : (bs : List Branch) (other : Option ℕ) (q : ℕ) → x ≡ Case bs other → branch_of ks at bs other ≡ Some q → new ≡ old ++ (Read q level ∷ []) → Did
+  did_case bs other q e b n =
+      let f = fits g fit p (Case bs other) (is_as (Case bs other) e) in
+      rw (e, n, b) (tasks-snoc g ks old (Read q level) at done 1, AreTasks-snoc g ks old (Read q level) all (other_inside g p q (branch_of ks at bs other) b (branch_below g ks p at bs other f)))
+
+  pub did_star : (firsts : List ℕ) (q : ℕ) → x ≡ Star firsts q → begins ks at firsts ≡ true → new ≡ (old ++ (Read p level ∷ [])) ++ (Read q level ∷ []) → Did
+  did_star firsts q e b n =
+      let i = is_as (Star firsts q) e in
+      let f = fits g fit p (Star firsts q) i in
+      let inside = slice_get_within g.prods p (Star firsts q) i in
+      rw (n) (rw e (tasks-star g ks fit old p q level firsts at done 1 i inside f.1 b), AreTasks-snoc g ks (old ++ (Read p level ∷ [])) (Read q level) (AreTasks-snoc g ks old (Read p level) all inside) f.0.inside)
+
+  pub did_rule : (r : ℕ) (rule : Rule) (inner : ℕ) → x ≡ Call r → r < length g.rules → rule_at g r ≡ Some rule → level_in rule level ≡ Some inner → new ≡ (old ++ (Close r (length done) ∷ [])) ++ (Read rule.to inner ∷ []) → Did
+  did_rule r rule inner e h i l n =
+      let there = rule_there g fit r h in
+      let same : there.0 ≡ rule = let s : Some there.0 ≡ Some rule = sym there.1 ∙ i in cc in
+      let inside : rule.to < length g.prods = subst (λ (z : Rule). z.to < length g.prods) same there.2 in
+      (rw e (did_call g ks old new level at done 1 r rule inner i l n), rw n (AreTasks-snoc g ks (old ++ (Close r (length done) ∷ [])) (Read rule.to inner) (AreTasks-snoc g ks old (Close r (length done)) all tt) inside))
+
+  pub did_not : (r : ℕ) (rule : Rule) → x ≡ Call r → rule_at g r ≡ Some rule → level_in rule level ≡ None → of_production g ks (whole g ks) level (Some x) at done 1 ≡ Answer.deep at 1
+  did_not r rule e i l = rw (e, i) (at_no_level rule.nests (nat_lt level max_level) level l (λ y. close r done (whole g ks rule.to y at done 1)) (Answer.deep at 1))
+
+-- an error of the next task is the error of all
+pub fails_all : (g : Table) (ks : List ℕ) (e : ParseFault) (trees : List ParseTree) (stack rest : List Task) (t : Task) (at : ℕ) (done : List ParseTree) (z : Answer) → stack ≡ rest ++ (t ∷ []) → outcome_of (tasks g ks stack at done 0) ≡ outcome_of z → Meets (Err e) trees (task g ks t at done 0) → Meets (Err e) trees z
+fails_all g ks Memory trees stack rest t at done z s same m = tt
+fails_all g ks (Stuck x) trees stack rest t at done z s same m = sym same ∙ ap (λ (l : List Task). outcome_of (tasks g ks l at done 0)) s ∙ ap (λ (a : Answer). outcome_of a) (tasks-snoc g ks rest t at done 0) ∙ stop_some (task g ks t at done 0) (λ to more m. tasks g ks rest to more m) (Outcome.stuck x) tt m
+fails_all g ks (Deep x) trees stack rest t at done z s same m = sym same ∙ ap (λ (l : List Task). outcome_of (tasks g ks l at done 0)) s ∙ ap (λ (a : Answer). outcome_of a) (tasks-snoc g ks rest t at done 0) ∙ stop_some (task g ks t at done 0) (λ to more m. tasks g ks rest to more m) (Outcome.deep x) tt m
+
+pub none_left : (l : List Task) → length l ≡ 0 → l ≡ []
+none_left [] e = refl
+none_left (t ∷ ts) e = absurd (omega arith)
+
+-- one step: the outcome stays, and one step less is to come
+pub one_step : (g : Table) (ks : List ℕ) (stack rest new : List Task) (t : Task) (at to : ℕ) (done more : List ParseTree) → stack ≡ rest ++ (t ∷ []) → tasks g ks new to more 1 ≡ then_at (task g ks t at done 0) (λ x l i. tasks g ks rest x l i)
+    → (outcome_of (tasks g ks new to more 0) ≡ outcome_of (tasks g ks stack at done 0)) × (steps_of (tasks g ks new to more 0) < steps_of (tasks g ks stack at done 0))
+one_step g ks stack rest new t at to done more s e =
+    let all : tasks g ks stack at done 0 ≡ later (tasks g ks new to more 0) = ap (λ (l : List Task). tasks g ks l at done 0) s ∙ tasks-snoc g ks rest t at done 0 ∙ sym e ∙ tasks_shift g ks new to more 0 in
+    let less : steps_of (tasks g ks stack at done 0) ≡ suc (steps_of (tasks g ks new to more 0)) = ap (λ (a : Answer). steps_of a) all ∙ steps_of-later (tasks g ks new to more 0) in
+    (sym (ap (λ (a : Answer). outcome_of a) all ∙ outcome_of-later (tasks g ks new to more 0)), omega (arith, less))
+
+-- the first two tasks
+pub started : (g : Table) (fit : IsFit g) (ks : List ℕ) (trees : List ParseTree) (none stack : List Task) (r inner : ℕ) (rule : Rule) → trees ≡ [] → none ≡ [] → r < length g.rules → rule_at g r ≡ Some rule → level_in rule 0 ≡ Some inner → stack ≡ (none ++ (Close r 0 ∷ [])) ++ (Read rule.to inner ∷ [])
+    → (outcome_of (tasks g ks stack 0 trees 0) ≡ outcome_of (of_production g ks (whole g ks) 0 (Some (Call r)) 0 [] 0)) × AreTasks g stack
+started g fit ks trees none stack r inner rule t n h i l s =
+    let all : stack ≡ ([] ++ (Close r 0 ∷ [])) ++ (Read rule.to inner ∷ []) = s ∙ ap (λ (x : List Task). (x ++ (Close r 0 ∷ [])) ++ (Read rule.to inner ∷ [])) n in
+    let there = rule_there g fit r h in
+    let same : there.0 ≡ rule = let e : Some there.0 ≡ Some rule = sym there.1 ∙ i in cc in
+    let inside : rule.to < length g.prods = subst (λ (z : Rule). z.to < length g.prods) same there.2 in (
+      ap (λ (x : List ParseTree). outcome_of (tasks g ks stack 0 x 0)) t
+          ∙ ap (λ (a : Answer). outcome_of a) (did_call g ks [] stack 0 0 [] 0 r rule inner i l all ∙ then_none g ks (of_production g ks (whole g ks) 0 (Some (Call r)) 0 [] 0)),
+      rw all (tt, (inside, tt)),
+    )

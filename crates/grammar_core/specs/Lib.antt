@@ -1,0 +1,11 @@
+pub mod Tables
+pub mod Paths
+pub mod Empty
+pub mod Unfit
+pub mod Checks
+pub mod Trees
+pub mod Derives
+pub mod Arena
+pub mod Answers
+pub mod Tasks
+pub mod Parses

@@ -1,0 +1,36 @@
+-- What is still to be done: a stack of tasks, the next one last.
+use Rattle.std.specs.Prelude.{◌≡◌, ℕ, ◌<◌, List, [], ◌∷◌, length, map, suc, Result, Ok, Err}
+use Rattle.grammar_core.specs.declared.table.Table.{Table}
+use Rattle.grammar_core.specs.declared.fault.ParseFault.{ParseFault}
+use Rattle.grammar_core.specs.declared.machine.Task.{Task}
+use Rattle.grammar_core.specs.declared.machine.Task.TheVariants.{Read, Close}
+use Rattle.grammar_core.specs.Trees.{ParseTree}
+use Rattle.grammar_core.specs.Arena.{closed}
+use Rattle.grammar_core.specs.Answers.{Answer, Reading, then_at, whole, Meets}
+
+abbrev pub task : Table → List ℕ → Task → Reading
+task g ks (Read p level) at done n = whole g ks p level at done n
+task g ks (Close r start) at done n = Answer.ends at (closed r start done) (suc n)
+
+abbrev pub tasks_from : Table → List ℕ → List Task → Reading → Reading
+tasks_from g ks [] next at done n = next at done n
+tasks_from g ks (t ∷ ts) next at done n = tasks_from g ks ts (λ to more m. then_at (task g ks t to more m) next) at done n
+
+unfoldable pub tasks : Table → List ℕ → List Task → Reading
+tasks g ks ts at done n = tasks_from g ks ts (λ to more m. Answer.ends to more m) at done n
+
+abbrev pub reads : ℕ → List ℕ → List Task
+reads level ps = map (λ p. Read p level) ps
+
+abbrev pub IsTask : Table → Task → Type 0
+IsTask g (Read p level) = p < length g.prods
+IsTask g (Close r start) = Unit {0}
+
+abbrev pub AreTasks : Table → List Task → Type 0
+AreTasks g [] = Unit {0}
+AreTasks g (t ∷ ts) = IsTask g t × AreTasks g ts
+
+-- one step was done, which counts one, of a task that answers this
+abbrev pub Stepped : Table → List ℕ → Result ℕ ParseFault → List Task → List Task → List ParseTree → Answer → Type 0
+Stepped g ks (Ok to) old new trees a = (tasks g ks new to trees 1 ≡ then_at a (λ at done n. tasks g ks old at done n)) × AreTasks g new
+Stepped g ks (Err e) old new trees a = Meets (Err e) trees a

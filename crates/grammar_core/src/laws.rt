@@ -1,0 +1,21 @@
+ghost use Rattle.std.specs.Prelude.{◌≡◌, ◌<◌, length, List, ℕ};
+ghost use Rattle.grammar_core.specs.declared.table.Table.{Table};
+ghost use Rattle.grammar_core.specs.Derives.{Derives, GivesOnce, HoldsOnce};
+ghost use Rattle.grammar_core.specs.Trees.{ParseTree, leaves, numbered};
+ghost use Rattle.grammar_core.specs.Unfit.{IsFit};
+
+/// A law: over a fit table each production gives exactly one outcome.
+pub fn gives_once()
+    ensures { (g : Table) (ks : List ℕ) (p level at : ℕ) → IsFit g → p < length g.prods → GivesOnce g ks p level at }
+{}
+
+/// A law: over a fit table the tokens have one tree as a rule, or are stuck at one place, or are too
+/// deep at one place.
+pub fn holds_once()
+    ensures { (g : Table) (ks : List ℕ) (r : ℕ) → IsFit g → r < length g.rules → HoldsOnce g ks r }
+{}
+
+/// A law: the leaves of a tree, from left to right, are all the tokens.
+pub fn leaves_are_tokens()
+    ensures { (g : Table) (ks : List ℕ) (r : ℕ) (tree : ParseTree) → Derives g ks r tree → leaves tree ≡ numbered 0 ks }
+{}

@@ -1,0 +1,27 @@
+//! A parser over any table of productions, and the test that a table is fit for it.
+#![tactic(auto)]
+
+mod builder;
+mod fault;
+mod fitness;
+mod grammar;
+mod laws;
+mod lookup;
+mod machine;
+mod marks;
+mod node;
+mod parser;
+mod table;
+mod tree;
+
+pub use fault::{GrammarFault, ParseFault};
+pub use grammar::Grammar;
+pub use laws::{gives_once, holds_once, leaves_are_tokens};
+pub use machine::Task;
+pub use node::Node;
+pub use parser::parse;
+pub use table::{Branch, Prod, Rule, Table};
+pub use tree::{NodeNo, Tree};
+
+#[cfg(test)]
+mod tests;
