@@ -67,11 +67,7 @@ fn write_refusal(alloc: Global, refusal: Refusal, out: &mut Vec<u8>) -> Result<(
 }
 
 /// Carries out a command, and writes its answer.
-pub fn carry_out(
-    alloc: Global,
-    command: &Command,
-    out: &mut Vec<u8>,
-) -> Result<Turn, AllocError>
+pub fn carry_out(alloc: Global, command: &Command, out: &mut Vec<u8>) -> Result<Turn, AllocError>
     requires { AddsUp command.now }
     ensures bytes { OnOk result (out.new.items ≡ out.old.items ++ (carried_out start command.now).bytes) }
     ensures turn { IfOk result (λ turn. turn ≡ (carried_out start command.now).turn) }

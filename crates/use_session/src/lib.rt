@@ -9,5 +9,5 @@ mod sum;
 
 pub use session::{Session, SessionFault, Turn};
 
-
-
+#[cfg(test)]
+mod tests;

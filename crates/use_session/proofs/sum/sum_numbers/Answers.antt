@@ -11,6 +11,6 @@ numbers-preserved c =
       within = omega arith;
       not_negative = c.in_ok-push_number-2.ensures.not_negative;
       so_far =
-        let pushed : c.push_number-in-numbers.new.numbers ≡ c.numbers.numbers ++ number ∷ [] = search rules in
-        rw (pushed, numbers_push c.numbers.numbers number more, ← c.in-Some-next_number.ensures.some) c.numbers.invariant.so_far;
+          let pushed : c.push_number-in-numbers.new.numbers ≡ c.numbers.numbers ++ number ∷ [] = search rules in
+          rw (pushed, numbers_push c.numbers.numbers number more, ← c.in-Some-next_number.ensures.some) c.numbers.invariant.so_far;
     }
