@@ -1,4 +1,4 @@
-use Rattle.std.proofs.Common.{◌≡◌, ℕ, ◌+◌, ◌-◌, ◌<◌, ◌≤◌, ◌^◌, List, [], ◌∷◌, ◌++◌, length, drop, Option, Some, None, ℤ, pos, negsuc, ◌+ℤ◌, arith, refl, sym, ap, append_assoc, length-drop, nat_lt, Bool, true, false, cond}
+use Rattle.std.proofs.Common.{◌≡◌, List, [], ◌∷◌, ◌++◌, Option, Some, None, ℤ, refl, ap, append_assoc}
 use Rattle.use_session.specs.Commands.{and_then}
 
 -- these numbers, and then those

@@ -1,5 +1,5 @@
 -- Commands, as they are read from their tokens.
-use Rattle.std.specs.Prelude.{ℕ, ◌==◌, ◌&&◌, not, true, nat_le, if◌then◌else◌, Bool, codes, take, drop, take_while, List, [], ◌∷◌, length, Option, Some, None, Result, Ok, Err, ℤ, slice_range, All, ⊤}
+use Rattle.std.specs.Prelude.{ℕ, ◌==◌, ◌&&◌, not, true, nat_le, if◌then◌else◌, Bool, codes, take, drop, take_while, List, [], ◌∷◌, length, Option, Some, None, Ok, Err, ℤ, slice_range, All, ⊤}
 use Rattle.std.specs.Int.{IsNonNegative}
 use Rattle.use_text.specs.declared.cut.Cut.{Cut}
 use Rattle.use_text.specs.declared.cut.Fate.{Fate}

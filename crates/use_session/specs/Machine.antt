@@ -1,5 +1,5 @@
 -- The machine that answers commands, and its step.
-use Rattle.std.specs.Prelude.{ℕ, Bool, List, [], ◌∷◌, ◌++◌, codes, fold, ℤ, pos, ◌+ℤ◌, Option, None}
+use Rattle.std.specs.Prelude.{ℕ, Bool, List, [], ◌++◌, codes, fold, ℤ, pos, ◌+ℤ◌, None}
 use Rattle.use_text.specs.declared.cut.Cut.{Cut}
 use Rattle.use_text.specs.declared.refusal.Refusal.{Refusal}
 use Rattle.use_text.specs.Refusals.{refusal_text}

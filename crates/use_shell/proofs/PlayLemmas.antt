@@ -5,7 +5,7 @@ use Rattle.std.specs.Io.KnownBytes.{Appends}
 use Rattle.use_text.specs.declared.cut.Cut.{Cut}
 use Rattle.use_text.specs.Cuts.{Cutting, Extends, StaysEnded, ended, cuts, StandsFor}
 use Rattle.use_session.specs.Machine.{Machine, start, step}
-use Rattle.use_shell.specs.Output.{Played, after, play}
+use Rattle.use_shell.specs.Output.{play}
 use Rattle.use_shell.specs.Endings.{AppendsFront}
 use Rattle.use_shell.specs.Plays.{PlaysOn, PlaysFront}
 use Rattle.use_shell.proofs.MoveLemmas.{appends_then, front_after, front_longer, front_of_none}

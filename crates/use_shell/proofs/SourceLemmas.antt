@@ -1,5 +1,5 @@
 -- A run over the bytes that were taken is the run over the whole input.
-use Rattle.std.proofs.Common.{◌≡◌, ℕ, ◌<◌, ◌≤◌, List, [], ◌++◌, length, take, Option, Some, None, Result, Ok, Err, IfSome, IfOk, OnErr, nat_lt, true, cond, Bool, arith, refl, sym, ap, ◌∙◌, subst, append-nil, ◌⊎◌, ⊎_elim, inl, inr, false, length-append, ltb-true, IsErr}
+use Rattle.std.proofs.Common.{◌≡◌, ℕ, ◌<◌, ◌≤◌, List, [], ◌++◌, length, take, Option, Some, None, Result, Ok, Err, IfSome, IfOk, OnErr, nat_lt, true, cond, Bool, arith, refl, sym, ap, ◌∙◌, subst, append-nil, ◌⊎◌, ⊎_elim, false, length-append, ltb-true, IsErr}
 use Rattle.use_shell.proofs.MoveLemmas.{front_of_none}
 use Rattle.std.specs.Io.KnownBytes.{Consumes, IsAtEnd}
 use Rattle.std.proofs.lemmas.List.{take-append-le}
@@ -24,9 +24,9 @@ length_front xs ys n h = omega (arith, length-append xs ys)
 gathered : (n : ℕ) (taken rest input : List ℕ) → input ≡ taken ++ rest → (rest ≡ []) ⊎ (n < length taken) → of_input_within n taken ≡ of_input_within n input
 gathered n taken rest input is far =
     ⊎_elim
-      (λ none. ap (of_input_within n) (sym (is ∙ ap (λ l. taken ++ l) none ∙ append-nil taken)))
-      (λ more. long_input n taken more ∙ ap (λ l. ending (play start (ended l)).bytes TooLong) (sym (take-append-le n taken rest (omega arith))) ∙ sym (long_input n (taken ++ rest) (length_front taken rest n more)) ∙ ap (of_input_within n) (sym is))
-      far
+    (λ none. ap (of_input_within n) (sym (is ∙ ap (λ l. taken ++ l) none ∙ append-nil taken)))
+    (λ more. long_input n taken more ∙ ap (λ l. ending (play start (ended l)).bytes TooLong) (sym (take-append-le n taken rest (omega arith))) ∙ sym (long_input n (taken ++ rest) (length_front taken rest n more)) ∙ ap (of_input_within n) (sym is))
+    far
 
 pub finished_source : (n : ℕ) (left now : Option (List ℕ)) (taken : List ℕ) (r : Result Status Stop) (old new : Option (List ℕ)) → Consumes left now taken → IsAtEnd now ⊎ (n < length taken)
     → IfOk r (λ status. EndsWith (of_input_within n taken) status old new) → OnErr r (AppendsFront old new (of_input_within n taken).bytes) → IfSome left (λ input. Finishes (of_input_within n input) old new r)

@@ -1,8 +1,8 @@
 -- Model files.
-use Rattle.std.specs.Prelude.{ℕ, Bool, false, ◌&&◌, ◌==◌, nat_lt, if◌then◌else◌, List, [], ◌∷◌, length, Option, Some, None, Ok, Err}
+use Rattle.std.specs.Prelude.{ℕ, Bool, false, ◌&&◌, ◌||◌, ◌==◌, nat_lt, nat_le, if◌then◌else◌, List, [], ◌∷◌, length, Option, Some, None, Ok, Err}
 use Rattle.use_text.specs.declared.token.Token.{Token}
 use Rattle.use_text.specs.declared.token.TokenKind.{TokenKind}
-use Rattle.use_text.specs.declared.token.TokenKind.TheVariants.{End, Name, Model}
+use Rattle.use_text.specs.declared.token.TokenKind.TheVariants.{End, Name, Model, Check}
 use Rattle.use_text.specs.declared.refusal.Refusal.{Refusal}
 use Rattle.use_text.specs.declared.code.Family.TheVariants.{F, S}
 use Rattle.use_text.specs.Codes.{code_of}
@@ -19,9 +19,13 @@ max_model = 4194304
 abbrev pub is_kind : TokenKind → Token → Bool
 is_kind kind t = t.kind == number_of kind
 
+-- a name, or a command word, which is one too
+abbrev pub is_name : Token → Bool
+is_name t = is_kind Name t || nat_le (number_of Check) t.kind
+
 -- `model`, a name, and the end
 abbrev pub is_empty_model : List Token → Bool
-is_empty_model (m ∷ n ∷ e ∷ []) = is_kind Model m && is_kind Name n && is_kind End e
+is_empty_model (m ∷ n ∷ e ∷ []) = is_kind Model m && is_name n && is_kind End e
 is_empty_model _ = false
 
 -- a form that is not built yet, at this place

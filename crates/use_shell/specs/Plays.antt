@@ -2,7 +2,7 @@
 use Rattle.std.specs.Prelude.{ℕ, ◌≡◌, List, [], ◌++◌, Option, false}
 use Rattle.std.specs.Io.KnownBytes.{Appends}
 use Rattle.use_text.specs.declared.cut.Cut.{Cut}
-use Rattle.use_text.specs.Cuts.{Cutting, StandsFor, Extends, ended, cuts}
+use Rattle.use_text.specs.Cuts.{Cutting, StandsFor, ended}
 use Rattle.use_session.specs.Machine.{Machine, Standing}
 use Rattle.use_shell.specs.Output.{play}
 use Rattle.use_shell.specs.Endings.{AppendsFront}

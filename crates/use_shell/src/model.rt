@@ -4,7 +4,7 @@ ghost use Rattle.use_io.specs.Causes.{Rose};
 ghost use Rattle.use_text.specs.Places.{place_at};
 ghost use Rattle.use_text.specs.Refusals.{refusal_at};
 ghost use Rattle.use_text.specs.Tokens.{tokens};
-ghost use Rattle.use_shell.specs.Models.{is_kind, is_empty_model, unbuilt, refusal_of_list, refusal_of_tokens, model_refusal};
+ghost use Rattle.use_shell.specs.Models.{is_kind, is_name, is_empty_model, unbuilt, refusal_of_list, refusal_of_tokens, model_refusal};
 
 use crate::stop::Stop;
 use std::alloc::Global;
@@ -20,13 +20,20 @@ fn is_kind(kind: TokenKind, token: Token) -> bool
     token.kind == kind.number()
 }
 
+/// Whether a token is a name, or a command word, which is one too.
+fn is_name(token: Token) -> bool
+    ensures { result ≡ is_name token }
+{
+    is_kind(TokenKind::Name, token) || token.kind >= TokenKind::Check.number()
+}
+
 /// Whether the tokens are `model`, a name, and the end.
 fn is_empty_model(tokens: &[Token]) -> bool
     ensures { result ≡ is_empty_model tokens.now }
 {
     tokens.len() == 3
         && is_kind(TokenKind::Model, tokens[0])
-        && is_kind(TokenKind::Name, tokens[1])
+        && is_name(tokens[1])
         && is_kind(TokenKind::End, tokens[2])
 }
 

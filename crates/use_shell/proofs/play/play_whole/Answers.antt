@@ -1,4 +1,3 @@
-use Rattle.std.proofs.Common.{arith}
 use Rattle.use_text.specs.Cuts.{cuts}
 use Rattle.use_shell.proofs.MoveLemmas.{on_err}
 use Rattle.use_shell.proofs.PlayLemmas.{cuts_extend, last_on, last_front}
