@@ -1,5 +1,5 @@
 -- The lexemes of a text, and its tokens.
-use Rattle.std.proofs.Common.{◌≡◌, ◌≢◌, ℕ, zero, suc, ◌+◌, ◌-◌, ◌<◌, ◌≤◌, Bool, true, false, List, [], ◌∷◌, length, take, drop, arith, refl, sym, ap, ◌∙◌, subst, inl, inr, length-drop}
+use Rattle.std.proofs.Common.{◌≡◌, ℕ, zero, suc, ◌+◌, ◌<◌, ◌≤◌, Bool, true, false, List, [], ◌∷◌, length, take, drop, arith, refl, sym, ap, ◌∙◌, subst, inl, inr, length-drop}
 use Rattle.std.proofs.lemmas.Bool.{cases_lt}
 use Rattle.use_text.specs.declared.place.Place.{Place}
 use Rattle.use_text.specs.declared.token.Token.{Token as TokenAt}
@@ -7,7 +7,7 @@ use Rattle.use_text.specs.declared.piece.Piece.{Piece}
 use Rattle.use_text.specs.declared.piece.Piece.TheVariants.{White, Token, Bad}
 use Rattle.use_text.specs.Places.{behind_all}
 use Rattle.use_text.specs.Pieces.{piece_of}
-use Rattle.use_text.specs.Tokens.{Tokens, tokens_from, reading, before, token_at}
+use Rattle.use_text.specs.Tokens.{tokens_from, reading, before, token_at}
 use Rattle.use_text.specs.Lexemes.{is_lexeme, lexeme_piece, IsLongest, HasNoLexeme, HasLexemes, broken_code, lexeme_tokens, LexemesExist, LexemesAreUnique, TokensAreLexemes}
 use Rattle.use_text.proofs.TokenLemmas.{white_read, token_read, bad_read}
 use Rattle.use_text.proofs.LexemeLemmas.{IsSized, Front, lexeme, nothing}

@@ -1,5 +1,5 @@
 -- What stands at the front of any bytes.
-use Rattle.std.proofs.Common.{◌≡◌, ◌≢◌, ℕ, zero, suc, ◌+◌, ◌-◌, ◌<◌, ◌≤◌, ◌==◌, Bool, true, false, not, cond, nat_eq, nat_le, is_some, List, [], ◌∷◌, length, take, drop, codes, take_while, arith, refl, sym, ap, ◌∙◌, subst, ◌||◌, ◌&&◌, Option, Some, None, length-take-le}
+use Rattle.std.proofs.Common.{◌≡◌, ℕ, zero, suc, ◌+◌, ◌<◌, ◌≤◌, ◌==◌, Bool, true, false, cond, nat_le, is_some, List, [], ◌∷◌, length, take, codes, take_while, arith, refl, sym, ap, ◌∙◌, subst, ◌||◌, Option, Some, None, length-take-le}
 use Rattle.std.specs.Option.{option_map_or}
 use Rattle.std.specs.List.{list_all}
 use Rattle.use_text.specs.declared.code.Family.TheVariants.{L}
@@ -8,9 +8,9 @@ use Rattle.use_text.specs.declared.piece.Piece.{Piece}
 use Rattle.use_text.specs.declared.piece.Piece.TheVariants.{White, Token, Bad}
 use Rattle.use_text.specs.Codes.{code_of}
 use Rattle.use_text.specs.Pieces.{is_white, is_letter, is_digit, is_name_byte, same_text, string_end, string_piece, word_kind, word_piece, number_of_digits, number_piece, at_piece, mark_piece, piece_of}
-use Rattle.use_text.specs.Lexemes.{is_string, is_mark, is_lexeme, begins_comment, mark_lexeme, lexeme_piece, IsLongest, broken_code}
-use Rattle.use_text.proofs.LexemeLemmas.{by_bool, not_true, IsSized, Front, lexeme, nothing, longest_by, none_by, run_length, run_taken, run_within, run_longest, string_exact, string_found, EndsAt}
-use Rattle.use_text.proofs.MarkLemmas.{BeginsMark, front_mark}
+use Rattle.use_text.specs.Lexemes.{is_string, is_lexeme, begins_comment, lexeme_piece}
+use Rattle.use_text.proofs.LexemeLemmas.{by_bool, not_true, IsSized, Front, lexeme, nothing, longest_by, none_by, run_length, run_taken, run_longest, string_exact, string_found}
+use Rattle.use_text.proofs.MarkLemmas.{front_mark}
 
 when_true : {A : Type 0} (t : Bool) (x y : A) → t ≡ true → cond t x y ≡ x
 when_true true x y h = refl

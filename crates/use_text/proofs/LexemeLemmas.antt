@@ -1,11 +1,10 @@
 -- The longest lexeme at the front of bytes.
-use Rattle.std.proofs.Common.{◌≡◌, ◌≢◌, ℕ, zero, suc, ◌+◌, ◌-◌, ◌<◌, ◌≤◌, ◌==◌, Bool, true, false, not, cond, nat_eq, List, [], ◌∷◌, length, take, drop, codes, take_while, arith, refl, sym, ap, ◌∙◌, ◌||◌, ◌&&◌, Option, Some, None, inl, inr, ◌⊎◌}
+use Rattle.std.proofs.Common.{◌≡◌, ℕ, zero, suc, ◌+◌, ◌<◌, ◌≤◌, ◌==◌, Bool, true, false, not, cond, List, [], ◌∷◌, length, take, take_while, arith, refl, ap, ◌∙◌, ◌&&◌, Option, Some, None}
 use Rattle.std.specs.List.{list_all}
 use Rattle.std.proofs.lemmas.List.Sums.{take_while-cons}
-use Rattle.use_text.specs.declared.token.TokenKind.{TokenKind}
 use Rattle.use_text.specs.declared.piece.Piece.{Piece}
 use Rattle.use_text.specs.declared.piece.Piece.TheVariants.{White, Token, Bad}
-use Rattle.use_text.specs.Pieces.{is_white, is_letter, is_digit, is_name_byte, is_in_line, string_end, comment_end, piece_of}
+use Rattle.use_text.specs.Pieces.{string_end, comment_end}
 use Rattle.use_text.specs.Lexemes.{is_nothing, is_string, is_comment, is_lexeme, lexeme_piece, broken_code, IsLongest}
 
 -- a test by cases, where each case knows what the test told

@@ -1,5 +1,5 @@
 -- The longest comment or symbol at the front of bytes.
-use Rattle.std.proofs.Common.{◌≡◌, ◌≢◌, ℕ, zero, suc, ◌+◌, ◌-◌, ◌<◌, ◌≤◌, ◌==◌, Bool, true, false, not, cond, nat_eq, List, [], ◌∷◌, length, take, drop, codes, take_while, arith, refl, sym, ap, ◌∙◌, subst, ◌||◌, ◌&&◌, Option, Some, None, inl, inr, ◌⊎◌, length-take-le, length-take}
+use Rattle.std.proofs.Common.{◌≡◌, ℕ, zero, suc, ◌+◌, ◌<◌, ◌≤◌, ◌==◌, Bool, true, false, not, cond, nat_eq, List, [], ◌∷◌, length, take, drop, codes, take_while, arith, refl, sym, ap, ◌∙◌, subst, ◌||◌, ◌&&◌, Option, Some, None, inl, inr, ◌⊎◌, length-take-le, length-take}
 use Rattle.std.specs.Option.{option_map_or}
 use Rattle.std.specs.List.{list_all}
 use Rattle.std.specs.Cmp.Lexicographic.{bytes_decides}
@@ -11,9 +11,9 @@ use Rattle.use_text.specs.declared.piece.Piece.TheVariants.{White, Token, Bad}
 use Rattle.use_text.specs.declared.words.TheConstants.{SYMBOLS}
 use Rattle.use_text.specs.Codes.{code_of}
 use Rattle.use_text.specs.Pieces.{is_in_line, same_text, begins, comment_end, comment_piece, symbol_among, symbol_piece, mark_piece}
-use Rattle.use_text.specs.Lexemes.{is_comment, is_among, is_symbol, begins_line_comment, begins_comment, is_mark, is_lexeme, mark_lexeme, lexeme_piece, IsLongest}
+use Rattle.use_text.specs.Lexemes.{is_comment, is_among, is_symbol, begins_line_comment, begins_comment, is_mark, is_lexeme, mark_lexeme, lexeme_piece}
 use Rattle.use_text.proofs.PieceLemmas.{begins_within, and_left, and_right, or_right}
-use Rattle.use_text.proofs.LexemeLemmas.{by_bool, not_true, IsSized, Front, lexeme, nothing, longest_by, none_by, run_length, run_taken, run_within, run_all, run_past, comment_exact, comment_found, EndsAt}
+use Rattle.use_text.proofs.LexemeLemmas.{by_bool, not_true, IsSized, Front, lexeme, nothing, run_length, run_taken, run_within, run_all, run_past, comment_exact, comment_found}
 
 take_of_take : (n m : ℕ) (xs : List ℕ) → n ≤ m → take n (take m xs) ≡ take n xs
 take_of_take zero m xs le = refl

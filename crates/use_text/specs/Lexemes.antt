@@ -1,5 +1,5 @@
 -- A text in lexemes: white space, comments and tokens, each the longest. What the tokens of a text are, said by the bytes themselves.
-use Rattle.std.specs.Prelude.{ℕ, ◌≡◌, ◌+◌, ◌-◌, ◌<◌, ◌≤◌, ◌==◌, Bool, true, false, not, ◌||◌, ◌&&◌, if◌then◌else◌, List, [], ◌∷◌, length, take, drop, codes, Ok, Err}
+use Rattle.std.specs.Prelude.{ℕ, ◌≡◌, ◌+◌, ◌<◌, ◌≤◌, ◌==◌, Bool, true, false, not, ◌||◌, ◌&&◌, if◌then◌else◌, List, [], ◌∷◌, length, take, drop, codes, Ok, Err}
 use Rattle.std.specs.List.{list_all}
 use Rattle.use_text.specs.declared.code.Family.TheVariants.{L}
 use Rattle.use_text.specs.declared.place.Place.{Place}

@@ -1,5 +1,5 @@
 -- What stands at the front of bytes, by cases on the first byte.
-use Rattle.std.specs.Prelude.{ℕ, ◌-◌, ◌+◌, ◌*◌, ◌^◌, ◌==◌, Bool, false, not, ◌||◌, ◌&&◌, nat_le, nat_lt, nat_eq, if◌then◌else◌, List, [], ◌∷◌, length, drop, fold, codes, take_while, Option, Some, None, is_some, ℤ, pos}
+use Rattle.std.specs.Prelude.{ℕ, ◌-◌, ◌+◌, ◌*◌, ◌^◌, ◌==◌, Bool, true, false, not, ◌||◌, ◌&&◌, nat_le, nat_lt, nat_eq, if◌then◌else◌, List, [], ◌∷◌, length, drop, fold, codes, take_while, Option, Some, None, is_some, ℤ, pos}
 use Rattle.std.specs.List.{starts_with}
 use Rattle.std.specs.Option.{option_map_or}
 use Rattle.std.specs.Cmp.Lexicographic.{pointwise}
@@ -105,3 +105,18 @@ piece_of (b ∷ rest) =
     else (if b == 39 then string_piece rest
     else (if b == 64 then at_piece (take_while is_name_byte rest)
     else mark_piece (b ∷ rest)))))
+
+-- a byte behind a backslash stands for itself, or for a line feed or a tab
+abbrev pub escaped : ℕ → ℕ
+escaped b = if b == 110 then 10 else (if b == 116 then 9 else b)
+
+-- what bytes behind a quote stand for, up to the first quote that no backslash takes
+abbrev pub unquoted : Bool → List ℕ → List ℕ
+unquoted taken [] = []
+unquoted taken (b ∷ rest) =
+    if taken then escaped b ∷ unquoted false rest
+    else (if b == 39 then [] else (if b == 92 then unquoted true rest else b ∷ unquoted false rest))
+
+-- what a string token stands for
+abbrev pub string_of_quoted : List ℕ → List ℕ
+string_of_quoted quoted = unquoted false (drop 1 quoted)

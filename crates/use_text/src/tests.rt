@@ -127,6 +127,51 @@ fn each_kind_is_read(rt: HostRuntime) -> Result<(), Fail> {
 }
 
 #[test]
+fn each_word_has_a_kind_of_its_own(rt: HostRuntime) -> Result<(), Fail> {
+    let alloc = rt.alloc();
+    let words = "abstract aggregation and association attributes Bag begin between class \
+        composition constraints context declare delete destroy div do else end endif enum false \
+        for from if implies in insert into inv invalid let mod model new not null operations or \
+        ordered OrderedSet post pre role Sequence Set then true Undefined while xor \
+        check create exit info open opexit openter quit redo reset set undo view";
+    let found = kinds(alloc, words)?;
+    assert_eq!(rt; found.len(), 65);
+    let first = Abstract.number() as usize;
+    for (at, kind) in found.iter().enumerate() {
+        let wanted = if at < 64 { first + at } else { 0 };
+        assert_eq!(rt; *kind as usize, wanted);
+    }
+    for (at, word) in [(6, Begin), (50, Xor), (63, View)] {
+        assert_eq!(rt; found.get(at).copied(), Some(word.number()));
+    }
+    for text in ["Abstract", "bag", "SET", "ends", "_end", "undefined"] {
+        assert_eq!(rt;
+            kinds(alloc, text)?.first().copied(),
+            Some(Name.number()),
+            "at {text}"
+        );
+    }
+    Ok(())
+}
+
+#[test]
+fn strings_stand_for_their_characters(rt: HostRuntime) -> Result<(), Fail> {
+    let alloc = rt.alloc();
+    for (quoted, want) in [
+        ("''", ""),
+        ("'a b'", "a b"),
+        ("'it\\'s'", "it's"),
+        ("'\\n\\t\\\\\\x'", "\n\t\\x"),
+        ("'\\é'", "é"),
+    ] {
+        let value = string_of_quoted(alloc, quoted.as_bytes())?;
+        assert_eq!(rt; value.as_slice(), want.as_bytes(), "at {quoted}");
+    }
+    tokens_are_the_lexemes();
+    Ok(())
+}
+
+#[test]
 fn what_is_no_token_is_refused(rt: HostRuntime) -> Result<(), Fail> {
     let alloc = rt.alloc();
     for (text, want) in [
@@ -254,6 +299,8 @@ fn commands_have_at_most_65536_bytes(rt: HostRuntime) -> Result<(), Fail> {
     for (before, length, behind, fate) in [
         ("", 65535, "", Fate::Whole),
         ("", 65536, "\n", Fate::Whole),
+        ("", 65536, "\r\n", Fate::TooLong),
+        (" ", 65536, "\n", Fate::TooLong),
         ("", 65537, "\n", Fate::TooLong),
         ("\\\n", 65536, "\n.\n", Fate::Whole),
         ("\\\n\n", 65536, "\n.\n", Fate::TooLong),
@@ -267,6 +314,24 @@ fn commands_have_at_most_65536_bytes(rt: HostRuntime) -> Result<(), Fail> {
             cut.is_some_and(|c| c.fate == fate && c.text.len() == kept),
             "at {length}"
         );
+    }
+    Ok(())
+}
+
+#[test]
+fn lines_without_a_command_have_any_length(rt: HostRuntime) -> Result<(), Fail> {
+    let alloc = rt.alloc();
+    for (count, behind, want) in [
+        (70000, "", ""),
+        (70000, "\n?", "2 Whole ?;"),
+        (70000, "--'\n?", "2 Whole ?;"),
+        (70000, "// $\r\n?", "2 Whole ?;"),
+        (70000, "\\\n?\n.", "2 Whole ?;"),
+        (70000, "?\n?", "1 TooLong ;2 Whole ?;"),
+    ] {
+        let blanks = vec![in alloc; b' '; count]?;
+        let shown = cuts_shown(alloc, &blanks, behind.as_bytes())?;
+        assert_eq!(rt; shown.as_str(), want);
     }
     Ok(())
 }
