@@ -123,13 +123,14 @@ module _ (g : Table) where
       subst (λ (j : ℕ). is_marked (empty_sweep g.rules next (i + 1) xs) j ≡ true) n
       (sweep_marks xs (i + 1) next k x e (empty_within seen next (λ q. step_keeps (empty_by g.rules seen y) seen i q) g.rules x m) (omega (arith, inside, step_length (empty_by g.rules seen y) seen i)))
 
-  module _ (seen : List Bool) (long : length seen ≡ length g.prods) (same : empty_sweep g.rules seen 0 g.prods ≡ seen) where
-    marked_at : (p : ℕ) (x : Prod) → slice_get g.prods p ≡ Some x → empty_by g.rules seen x ≡ true → is_marked seen p ≡ true
-    marked_at p x e m =
-        let z : 0 + p ≡ p = omega arith in
-        let inside = slice_get_within g.prods p x e in
-        subst (λ (l : List Bool). is_marked l p ≡ true) same (subst (λ (j : ℕ). is_marked (empty_sweep g.rules seen 0 g.prods) j ≡ true) z (sweep_marks g.prods 0 seen p x e m (omega (arith, inside, long))))
+  -- a sweep that marks no more has marked each production whose parts say so
+  marked_at : (seen : List Bool) → length seen ≡ length g.prods → empty_sweep g.rules seen 0 g.prods ≡ seen → (p : ℕ) (x : Prod) → slice_get g.prods p ≡ Some x → empty_by g.rules seen x ≡ true → is_marked seen p ≡ true
+  marked_at seen long same p x e m =
+      let z : 0 + p ≡ p = omega arith in
+      let inside = slice_get_within g.prods p x e in
+      subst (λ (l : List Bool). is_marked l p ≡ true) same (subst (λ (j : ℕ). is_marked (empty_sweep g.rules seen 0 g.prods) j ≡ true) z (sweep_marks g.prods 0 seen p x e m (omega (arith, inside, long))))
 
+  module _ (seen : List Bool) (closed : (p : ℕ) (x : Prod) → slice_get g.prods p ≡ Some x → empty_by g.rules seen x ≡ true → is_marked seen p ≡ true) where
     any_of : (q : ℕ) (ps : List ℕ) → IsIn q ps → is_marked seen q ≡ true → any_marked seen ps ≡ true
     any_of q [] i m = absurd i
     any_of q (r ∷ rs) i m = ⊎_elim (λ e. rw (subst (λ (x : ℕ). is_marked seen x ≡ true) e m) refl) (λ j. keep (is_marked seen r) (any_marked seen rs) (any_of q rs j m)) i
@@ -139,8 +140,8 @@ module _ (g : Table) where
         keep false s e = e
 
     mutual
-      complete : (p : ℕ) → MayBeEmpty g p → is_marked seen p ≡ true
-      complete _ (MayBeEmpty.production p x e of) = marked_at p x e (complete_prod x of)
+      pub complete : (p : ℕ) → MayBeEmpty g p → is_marked seen p ≡ true
+      complete _ (MayBeEmpty.production p x e of) = closed p x e (complete_prod x of)
 
       complete_prod : (x : Prod) → IsEmptyProd g x → empty_by g.rules seen x ≡ true
       complete_prod _ (IsEmptyProd.call r q e m) = rw e (complete q m)
@@ -153,4 +154,4 @@ module _ (g : Table) where
       complete_all _ (AllMayBeEmpty.and q qs m all) = rw (complete q m) (complete_all qs all)
 
   pub marks_done : (seen : List Bool) → length seen ≡ length g.prods → Sound seen → empty_sweep g.rules seen 0 g.prods ≡ seen → MarksEmpty g seen
-  marks_done seen long s same = record { sound = s; complete = complete seen long same }
+  marks_done seen long s same = record { sound = s; complete = complete seen (marked_at seen long same) }

@@ -15,3 +15,4 @@ pub mod Building
 pub mod Emptiness
 pub mod Unfitness
 pub mod Yield
+pub mod Certified

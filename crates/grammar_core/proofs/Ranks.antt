@@ -112,7 +112,7 @@ module _ (g : Table) where
   next_at calls p x e = ap (λ (o : Option (List ℕ)). row_of o) (graph_at calls p x e)
 
   -- a step leaves from a production
-  step_at : (calls : Bool) (p q : ℕ) → IsIn q (next (graph_of calls g) p) → (x : Prod) × (slice_get g.prods p ≡ Some x) × IsIn q (next_prods calls g x)
+  pub step_at : (calls : Bool) (p q : ℕ) → IsIn q (next (graph_of calls g) p) → (x : Prod) × (slice_get g.prods p ≡ Some x) × IsIn q (next_prods calls g x)
   step_at calls p q i =
       ⊎_elim (λ some. (some.0, some.2, subst (λ (l : List ℕ). IsIn q l) (next_at calls p some.0 some.2) i))
       (λ past. absurd (subst (λ (o : Option (List ℕ)). IsIn q (row_of o)) (slice_get-map (λ y. next_prods calls g y) g.prods p ∙ ap (λ (o : Option Prod). option_map (λ y. next_prods calls g y) o) past.1) i))

@@ -52,7 +52,7 @@ part_not g (Seq ps) e q i l = past_not (length g.prods) ps e q i l
 part_not g (Case bs other) e q i l = past_not (length g.prods) (choices bs other) e q i l
 part_not g (Star firsts p) e q i l = past_not (length g.prods) (p ∷ []) e q i l
 
-outside_not : (g : Table) (x : Prod) → outside_by g x ≡ false → IsOutside g x → ⊥
+pub outside_not : (g : Table) (x : Prod) → outside_by g x ≡ false → IsOutside g x → ⊥
 outside_not g _ e (IsOutside.rule r l) = le_false (length g.rules) r e l
 outside_not g _ e (IsOutside.part x q i l) = part_not g x e q i l
 

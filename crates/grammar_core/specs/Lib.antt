@@ -9,3 +9,4 @@ pub mod Arena
 pub mod Answers
 pub mod Tasks
 pub mod Parses
+pub mod Certificate

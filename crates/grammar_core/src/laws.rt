@@ -1,8 +1,9 @@
-ghost use Rattle.std.specs.Prelude.{◌≡◌, ◌<◌, length, List, ℕ};
+ghost use Rattle.std.specs.Prelude.{◌≡◌, ◌<◌, length, Bool, IsTrue, List, ℕ};
 ghost use Rattle.grammar_core.specs.declared.table.Table.{Table};
 ghost use Rattle.grammar_core.specs.Derives.{Derives, GivesOnce, HoldsOnce};
 ghost use Rattle.grammar_core.specs.Trees.{ParseTree, leaves, numbered};
-ghost use Rattle.grammar_core.specs.Unfit.{IsFit};
+ghost use Rattle.grammar_core.specs.Unfit.{IsFit, IsTable};
+ghost use Rattle.grammar_core.specs.Certificate.{are_certified};
 
 /// A law: over a fit table each production gives exactly one outcome.
 pub fn gives_once()
@@ -18,4 +19,10 @@ pub fn holds_once()
 /// A law: the leaves of a tree, from left to right, are all the tokens.
 pub fn leaves_are_tokens()
     ensures { (g : Table) (ks : List ℕ) (r : ℕ) (tree : ParseTree) → Derives g ks r tree → leaves tree ≡ numbered 0 ks }
+{}
+
+/// A law: a table is fit where ranks and marks show it, row by row. Where the table is a literal, so
+/// does a computation.
+pub fn certified_tables_are_fit()
+    ensures { (g : Table) (ranks : List ℕ) (seen : List Bool) → IsTable g → IsTrue (are_certified g ranks seen 0 g.prods) → IsFit g }
 {}

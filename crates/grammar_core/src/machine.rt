@@ -15,7 +15,7 @@ use use_text::Token;
 
 /// What is still to be done.
 #[derive(Clone, Copy, Debug, PartialEq, Eq)]
-pub enum Task {
+pub(crate) enum Task {
     /// Read a production, at a level of nesting.
     Read(u16, u32),
     /// Put the trees from a place on below a rule.
