@@ -1,5 +1,5 @@
 -- Productions as they are written down, and the productions of the table that they stand for.
-use Rattle.std.specs.Prelude.{ℕ, zero, suc, ◌+◌, List, [], ◌∷◌, map, Some, None}
+use Rattle.std.specs.Prelude.{ℕ, ◌+◌, List, [], ◌∷◌, map, Some, None}
 use Rattle.use_text.specs.declared.token.TokenKind.{TokenKind}
 use Rattle.use_text.specs.Kinds.{number_of}
 use Rattle.grammar_core.specs.declared.table.Branch.{Branch}
@@ -51,8 +51,3 @@ form_of (row.Choice branches) = choice (map (λ b. (b.0.now, b.1)) branches.now)
 form_of (row.OrElse branches other) = or_else (map (λ b. (b.0.now, b.1)) branches.now) other
 form_of (row.Optional kinds s) = optional kinds.now s
 form_of (row.Repeated kinds s) = repeated kinds.now s
-
--- so many numbers, from i on
-abbrev pub counted : ℕ → ℕ → List ℕ
-counted i zero = []
-counted i (suc n) = i ∷ counted (i + 1) n

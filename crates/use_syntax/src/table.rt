@@ -1,13 +1,18 @@
-ghost use Rattle.std.specs.Prelude.{◌≡◌, ◌+◌, ◌++◌, ◌≤◌, ◌<◌, [], length, map, IfOk, IfErr, OnOk};
-ghost use Rattle.grammar_core.specs.declared.table.Prod.TheVariants.{Call, Tok};
+ghost use Rattle.std.specs.Prelude.{◌≡◌, ◌+◌, ◌++◌, ◌≤◌, ◌<◌, [], ◌∷◌, length, map, IfOk, IfErr, OnOk};
 ghost use Rattle.grammar_core.specs.declared.fault.GrammarFault.TheVariants.{Memory};
 ghost use Rattle.use_text.specs.Kinds.{number_of};
-ghost use Rattle.use_syntax.specs.Forms.{branch_of, counted, form_of, place_of, prod_of};
-ghost use Rattle.use_syntax.specs.Language.{all_prods, bodies, language, nests};
+ghost use Rattle.use_syntax.specs.declared.row.Symbol.TheVariants.{Part as SymbolPart};
+ghost use Rattle.use_syntax.specs.Forms.{branch_of, form_of, place_of, prod_of};
+ghost use Rattle.use_syntax.specs.Language.{all_prods, bodies, call_prods, command_prods, expression_prods, language, model_prods, nests, statement_prods, token_prods, type_prods};
 
+use crate::commands::COMMAND_PARTS;
+use crate::expressions::EXPRESSION_PARTS;
+use crate::models::MODEL_PARTS;
 use crate::part::Part;
 use crate::row::{Row, Symbol};
 use crate::rules::RULES;
+use crate::statements::STATEMENT_PARTS;
+use crate::types::TYPE_PARTS;
 use grammar_core::{Branch, Grammar, GrammarFault, Prod};
 use std::alloc::{AllocError, Global};
 use use_lists::Items;
@@ -111,8 +116,9 @@ fn push_rows(alloc: Global, rows: &[Row], prods: &mut Vec<Prod>) -> Result<(), A
     Ok(())
 }
 
+/// One token of each kind.
 fn push_tokens(prods: &mut Vec<Prod>) -> Result<(), AllocError>
-    ensures { OnOk result (prods.new.items ≡ prods.old.items ++ map Tok (counted 0 96)) }
+    ensures { OnOk result (prods.new.items ≡ prods.old.items ++ token_prods) }
 {
     'kinds: for kind in 0..TOKENS {
         prods.push(Prod::Tok(kind))?;
@@ -120,13 +126,44 @@ fn push_tokens(prods: &mut Vec<Prod>) -> Result<(), AllocError>
     Ok(())
 }
 
+/// Each rule.
 fn push_calls(prods: &mut Vec<Prod>) -> Result<(), AllocError>
-    ensures { OnOk result (prods.new.items ≡ prods.old.items ++ map Call (counted 0 63)) }
+    ensures { OnOk result (prods.new.items ≡ prods.old.items ++ call_prods) }
 {
     'rules: for rule in 0..RULE_COUNT {
         prods.push(Prod::Call(rule))?;
     }
     Ok(())
+}
+
+fn push_types(alloc: Global, prods: &mut Vec<Prod>) -> Result<(), AllocError>
+    ensures { OnOk result (prods.new.items ≡ prods.old.items ++ type_prods) }
+{
+    push_rows(alloc, &TYPE_PARTS, prods)
+}
+
+fn push_expressions(alloc: Global, prods: &mut Vec<Prod>) -> Result<(), AllocError>
+    ensures { OnOk result (prods.new.items ≡ prods.old.items ++ expression_prods) }
+{
+    push_rows(alloc, &EXPRESSION_PARTS, prods)
+}
+
+fn push_statements(alloc: Global, prods: &mut Vec<Prod>) -> Result<(), AllocError>
+    ensures { OnOk result (prods.new.items ≡ prods.old.items ++ statement_prods) }
+{
+    push_rows(alloc, &STATEMENT_PARTS, prods)
+}
+
+fn push_commands(alloc: Global, prods: &mut Vec<Prod>) -> Result<(), AllocError>
+    ensures { OnOk result (prods.new.items ≡ prods.old.items ++ command_prods) }
+{
+    push_rows(alloc, &COMMAND_PARTS, prods)
+}
+
+fn push_models(alloc: Global, prods: &mut Vec<Prod>) -> Result<(), AllocError>
+    ensures { OnOk result (prods.new.items ≡ prods.old.items ++ model_prods) }
+{
+    push_rows(alloc, &MODEL_PARTS, prods)
 }
 
 /// All the productions: tokens, calls of rules, and those with names.
@@ -136,34 +173,46 @@ fn productions(alloc: Global) -> Result<Vec<Prod>, AllocError>
     let mut prods = Vec::new(alloc);
     push_tokens(&mut prods)?;
     push_calls(&mut prods)?;
-    push_rows(alloc, &crate::types::TYPE_PARTS, &mut prods)?;
-    push_rows(alloc, &crate::expressions::EXPRESSION_PARTS, &mut prods)?;
-    push_rows(alloc, &crate::statements::STATEMENT_PARTS, &mut prods)?;
-    push_rows(alloc, &crate::commands::COMMAND_PARTS, &mut prods)?;
-    push_rows(alloc, &crate::models::MODEL_PARTS, &mut prods)?;
+    push_types(alloc, &mut prods)?;
+    push_expressions(alloc, &mut prods)?;
+    push_statements(alloc, &mut prods)?;
+    push_commands(alloc, &mut prods)?;
+    push_models(alloc, &mut prods)?;
     Ok(prods)
+}
+
+fn places_of_rules(alloc: Global, rules: &[(Part, bool)]) -> Result<Vec<u16>, AllocError>
+    ensures { IfOk result (λ places. places.items ≡ map (λ b. place_of (SymbolPart b.0)) rules.now) }
+{
+    let mut places = Vec::new(alloc);
+    'rules: for (part, _) in rules {
+        places.push(place_of(Symbol::Part(*part)))?;
+    }
+    Ok(places)
+}
+
+fn flags_of_rules(alloc: Global, rules: &[(Part, bool)]) -> Result<Vec<bool>, AllocError>
+    ensures { IfOk result (λ flags. flags.items ≡ map (λ b. b.1) rules.now) }
+{
+    let mut flags = Vec::new(alloc);
+    'rules: for (_, nests) in rules {
+        flags.push(*nests)?;
+    }
+    Ok(flags)
 }
 
 /// The production of each rule.
 fn rule_places(alloc: Global) -> Result<Vec<u16>, AllocError>
     ensures { IfOk result (λ places. places.items ≡ bodies) }
 {
-    let mut places = Vec::new(alloc);
-    'rules: for (part, _) in &RULES {
-        places.push(place_of(Symbol::Part(*part)))?;
-    }
-    Ok(places)
+    places_of_rules(alloc, &RULES)
 }
 
 /// Whether each rule nests.
 fn rule_nests(alloc: Global) -> Result<Vec<bool>, AllocError>
     ensures { IfOk result (λ flags. flags.items ≡ nests) }
 {
-    let mut flags = Vec::new(alloc);
-    'rules: for (_, nests) in &RULES {
-        flags.push(*nests)?;
-    }
-    Ok(flags)
+    flags_of_rules(alloc, &RULES)
 }
 
 /// The grammar of the language.
