@@ -26,7 +26,7 @@ paired = refl
 
 pub inside : IsTrue (all_inside (length all_prods) bodies)
 unfolding token_prods call_prods type_prods expression_prods statement_prods command_prods model_prods all_prods bodies
-inside = tt
+inside = refl
 
 are_fit : are_ranked language (rank_in bodies nests) 0 language.prods ≡ true
 unfolding token_prods call_prods type_prods expression_prods statement_prods command_prods model_prods all_prods bodies nests language
@@ -38,3 +38,7 @@ is_fit = record {
   table = record { few = few; paired = paired; inside = inside };
   fit = ranked_not language (rank_in bodies nests) are_fit;
 }
+
+pub rules_there : length language.rules ≡ 63
+unfolding bodies language
+rules_there = refl

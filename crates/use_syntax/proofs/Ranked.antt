@@ -61,11 +61,11 @@ module _ (g : Table) where
   module _ (one : ℕ → Bool) (sound : (q : ℕ) → one q ≡ true → MayBeEmpty g q → ⊥) where
     some_sound : (ps : List ℕ) → some one ps ≡ true → AllMayBeEmpty g ps → ⊥
     some_sound _ e (AllMayBeEmpty.none) = (cc)
-    some_sound _ e (AllMayBeEmpty.and q qs m more) = here (one q) refl e
+    some_sound _ e (AllMayBeEmpty.and q qs m more) = here (one q) refl e (λ h. some_sound qs h more)
       where
-        here : (b : Bool) → one q ≡ b → (elim b [ true ↦ true | false ↦ some one qs ]) ≡ true → ⊥
-        here true is h = sound q is m
-        here false is h = some_sound qs h more
+        here : (b : Bool) → one q ≡ b → (elim b [ true ↦ true | false ↦ some one qs ]) ≡ true → (some one qs ≡ true → ⊥) → ⊥
+        here true is h later = sound q is m
+        here false is h later = later h
 
     prod_sound : (x : Prod) → sure_prod one (Some x) ≡ true → IsEmptyProd g x → ⊥
     prod_sound _ e (IsEmptyProd.call r q at m) = sound q (subst (λ (o : Option ℕ). sure_rule one o ≡ true) at e) m
