@@ -1,6 +1,6 @@
 -- Of a whole list exactly one verdict holds, and it is what the outcome of the start rule says.
-use Rattle.std.proofs.Common.{◌≡◌, ◌≢◌, ℕ, ◌-◌, ◌<◌, List, [], ◌∷◌, length, Some, Result, Ok, Err, IfOk, IfErr, MatchResult, slice_get, refl, sym, ap, ◌∙◌, arith, subst, ⊎_elim}
-use Rattle.std.proofs.lemmas.Bool.{cases_lt}
+use Rattle.std.proofs.Common.{◌≡◌, ◌≢◌, ℕ, ◌-◌, ◌<◌, List, [], ◌∷◌, length, Some, Result, Ok, Err, IfOk, IfErr, MatchResult, slice_get, refl, sym, ap, ◌∙◌, arith, subst, ⊎_elim, Bool, true, false, ◌==◌, if◌then◌else◌, Option}
+use Rattle.std.proofs.lemmas.Bool.{cases_lt, eqb-true, eqb-false}
 use Rattle.grammar_core.specs.declared.table.Table.{Table}
 use Rattle.grammar_core.specs.declared.table.Prod.TheVariants.{Call}
 use Rattle.grammar_core.specs.declared.node.Node.{Node}
@@ -11,7 +11,7 @@ use Rattle.grammar_core.specs.Arena.{root_tree}
 use Rattle.grammar_core.specs.Unfit.{IsFit}
 use Rattle.grammar_core.specs.Derives.{Outcome, below_rule, GivesProd, Derives, Stuck, Deep, Verdict, Holds, HoldsOnce}
 use Rattle.grammar_core.specs.Answers.{Answer, of_production, whole, outcome_of, Meets}
-use Rattle.grammar_core.specs.Parses.{IsFaultOf, Tells}
+use Rattle.grammar_core.specs.Parses.{IsFaultOf, Tells, first_tree, verdict_of, verdict as computed}
 use Rattle.grammar_core.proofs.Known.{start_known, start_only, known_at}
 
 -- what an outcome of the start rule means for the whole list
@@ -114,6 +114,24 @@ module _ (g : Table) (ks : List ℕ) where
         let s : Some k.0 ≡ Some a = sym (known_at (GivesProd g ks (Call r) 0 0) (λ done n. of_production g ks (λ q l from so_far m. whole g ks q l from so_far m) 0 (Some (Call r)) 0 done n) k 0) ∙ e in
         let same : k.0 ≡ a = cc in
         subst (λ (x : Outcome). Means (length ks) x verdict.0) same verdict.1
+
+-- a rule's outcome has the meaning that is computed from it
+ends_means : (len to : ℕ) (trees : List ParseTree) (tree : ParseTree) (whole : Bool) → (to == len) ≡ whole → trees ≡ tree ∷ [] → Means len (Outcome.ends to trees) (if whole then Verdict.derived (first_tree trees) else Verdict.stuck to)
+ends_means len to trees tree true e s = (eqb-true to len e, s ∙ ap (λ (t : ParseTree). t ∷ []) (sym (ap (λ (l : List ParseTree). first_tree l) s)))
+ends_means len to trees tree false e s = (refl, eqb-false to len e)
+
+single_means : (len : ℕ) (a : Outcome) → IsSingle a → Means len a (verdict_of len (Some a))
+single_means len (Outcome.ends to trees) s = ends_means len to trees s.0 (to == len) refl s.1
+single_means len (Outcome.stuck at) s = refl
+single_means len (Outcome.deep at) s = refl
+
+pub computed_holds : (g : Table) (ks : List ℕ) (fit : IsFit g) (r : ℕ) (inside : r < length g.rules) → Holds g ks r (computed g ks r)
+unfolding computed
+computed_holds g ks fit r inside =
+    let k = start_known g fit ks r 0 0 inside in
+    let e = known_at (GivesProd g ks (Call r) 0 0) (λ done n. of_production g ks (λ q l from so_far m. whole g ks q l from so_far m) 0 (Some (Call r)) 0 done n) k 0 in
+    let h : Holds g ks r (verdict_of (length ks) (Some k.0)) = means_holds g ks r k.0 (verdict_of (length ks) (Some k.0)) k.1 (single_means (length ks) k.0 (call_single g ks r 0 0 k.0 k.1)) in
+    subst (λ (o : Option Outcome). Holds g ks r (verdict_of (length ks) o)) (sym e) h
 
 -- what the parser answers for an outcome of the start rule
 pub tells_whole : (len to : ℕ) (trees : List ParseTree) (nodes : List Node) (v : Verdict) → Means len (Outcome.ends to trees) v → to ≡ len → slice_get trees (length trees - 1) ≡ Some (root_tree nodes) → Tells (Ok nodes) v

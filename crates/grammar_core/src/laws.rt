@@ -1,6 +1,7 @@
 ghost use Rattle.std.specs.Prelude.{◌≡◌, ◌<◌, length, Bool, IsTrue, List, ℕ};
 ghost use Rattle.grammar_core.specs.declared.table.Table.{Table};
-ghost use Rattle.grammar_core.specs.Derives.{Derives, GivesOnce, HoldsOnce};
+ghost use Rattle.grammar_core.specs.Derives.{Derives, GivesOnce, Holds, HoldsOnce};
+ghost use Rattle.grammar_core.specs.Parses.{verdict};
 ghost use Rattle.grammar_core.specs.Trees.{ParseTree, leaves, numbered};
 ghost use Rattle.grammar_core.specs.Unfit.{IsFit, IsTable};
 ghost use Rattle.grammar_core.specs.Certificate.{are_certified};
@@ -25,4 +26,9 @@ pub fn leaves_are_tokens()
 /// does a computation.
 pub fn certified_tables_are_fit()
     ensures { (g : Table) (ranks : List ℕ) (seen : List Bool) → IsTable g → IsTrue (are_certified g ranks seen 0 g.prods) → IsFit g }
+{}
+
+/// A law: over a fit table the verdict that is computed is the one that holds.
+pub fn verdict_holds()
+    ensures { (g : Table) (ks : List ℕ) (r : ℕ) → IsFit g → r < length g.rules → Holds g ks r (verdict g ks r) }
 {}

@@ -16,7 +16,9 @@ mod tree;
 
 pub use fault::{GrammarFault, ParseFault};
 pub use grammar::Grammar;
-pub use laws::{certified_tables_are_fit, gives_once, holds_once, leaves_are_tokens};
+pub use laws::{
+    certified_tables_are_fit, gives_once, holds_once, leaves_are_tokens, verdict_holds,
+};
 pub use node::Node;
 pub use parser::parse;
 pub use table::{Branch, Prod, Rule, Table};

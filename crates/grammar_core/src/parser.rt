@@ -1,7 +1,7 @@
 ghost use Rattle.std.specs.Prelude.{◌<◌, ◌≤◌, ◌^◌, length, IfOk, IfErr};
 ghost use Rattle.grammar_core.specs.Arena.{root_tree};
 ghost use Rattle.grammar_core.specs.Derives.{Derives, Holds, Verdict, kinds};
-ghost use Rattle.grammar_core.specs.Parses.{IsFaultOf, IsWithin, Tells};
+ghost use Rattle.grammar_core.specs.Parses.{IsFaultOf, IsWithin, Tells, verdict};
 
 use crate::builder::Builder;
 use crate::machine::run;
@@ -16,6 +16,7 @@ pub fn parse(alloc: Global, g: &Grammar, start: u16, tokens: &[Token]) -> Result
     ensures ok { IfOk result (λ t. Derives g.now (kinds tokens.now) start (root_tree t)) }
     ensures err { IfErr result (IsFaultOf g.now (kinds tokens.now) start) }
     ensures within { IfErr result (IsWithin (length tokens.now)) }
+    ensures verdict { Tells result (verdict g.now (kinds tokens.now) start) }
     ensures only { (v : Verdict) → Holds g.now (kinds tokens.now) start v → Tells result v }
 {
     let mut built = Builder::new(alloc);

@@ -115,6 +115,16 @@ impl Code {
         family: Family::S,
         number: 0,
     };
+    /// A token where the grammar allows none.
+    pub const S1: Code = Code {
+        family: Family::S,
+        number: 1,
+    };
+    /// Rules that are nested too deep.
+    pub const S2: Code = Code {
+        family: Family::S,
+        number: 2,
+    };
     /// No such file.
     pub const F1: Code = Code {
         family: Family::F,

@@ -1,0 +1,4 @@
+pub mod Ranked
+pub mod Fitness
+pub mod Lengths
+pub mod Judged

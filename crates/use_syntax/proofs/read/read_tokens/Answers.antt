@@ -1,0 +1,34 @@
+use Rattle.std.proofs.Common.{◌≡◌, ◌<◌, ℕ, length, sym, ap, ◌∙◌, subst, arith}
+use Rattle.use_text.specs.declared.code.Family.TheVariants.{S}
+use Rattle.use_text.specs.declared.place.Place.{Place}
+use Rattle.use_text.specs.Codes.{code_of}
+use Rattle.use_text.specs.Refusals.{refusal_at}
+use Rattle.grammar_core.specs.declared.table.Table.{Table}
+use Rattle.grammar_core.specs.Arena.{root_tree}
+use Rattle.use_syntax.specs.Numbers.{number_of_rule}
+use Rattle.use_syntax.specs.Reading.{parsed, refused, place_in, read_tokens}
+use Rattle.use_syntax.proofs.Fitness.{rules_there}
+use Rattle.use_syntax.proofs.Judged.{read_tree, read_stuck, read_deep}
+use Rattle.use_syntax.proofs.read.read_tokens.Goals as goal
+
+pub parse-requires-clause-rule : goal.parse-requires-clause-rule
+parse-requires-clause-rule c =
+    let e = ap (λ (t : Table). length t.rules) c.requires.table in
+    omega (arith, e, rules_there, c.number.ensures.small)
+
+pub returns-in-Ok : goal.returns-in-Ok
+returns-in-Ok c =
+    let e = read_tree c.args.g.now c.args.tokens c.as_slice.result.now (number_of_rule c.args.start) c.number.result c.requires.table c.as_slice.ensures c.number.ensures.is c.in-Ok.tree c.in-Ok.ensures.verdict in
+    (e ∙ ap (λ l. parsed l (root_tree c.in-Ok.tree)) (sym c.tokens.view_is), c.in_ok-from_slice-in-Ok.ensures)
+
+pub returns-in-Err-Stuck : goal.returns-in-Err-Stuck
+returns-in-Err-Stuck c =
+    let e = read_stuck c.args.g.now c.args.tokens c.as_slice.result.now (number_of_rule c.args.start) c.number.result c.requires.table c.as_slice.ensures c.number.ensures.is c.in-Err-Stuck.token (rw c.in-Err-Stuck.field-0-is at c.in-Err-Stuck.ensures.verdict) in
+    let at : c.place_in.result ≡ place_in c.args.tokens c.in-Err-Stuck.token = rw (← c.in-Err-Stuck.token-is, ← c.as_slice-in-Err-Stuck.ensures) c.place_in.ensures in
+    e ∙ ap (λ (p : Place). refused (refusal_at (code_of S 1) p)) (sym at)
+
+pub returns : goal.returns
+returns c =
+    let e = read_deep c.args.g.now c.args.tokens c.as_slice.result.now (number_of_rule c.args.start) c.number.result c.requires.table c.as_slice.ensures c.number.ensures.is c.in-Err-Deep.token (rw c.in-Err-Deep.field-0-is at c.in-Err-Deep.ensures.verdict) in
+    let at : c.place_in-in-Err-Deep.result ≡ place_in c.args.tokens c.in-Err-Deep.token = rw (← c.in-Err-Deep.token-is, ← c.as_slice-in-Err-Deep.ensures) c.place_in-in-Err-Deep.ensures in
+    e ∙ ap (λ (p : Place). refused (refusal_at (code_of S 2) p)) (sym at)

@@ -1,0 +1,11 @@
+pub mod Numbers
+pub mod Firsts
+pub mod Forms
+pub mod TypeForms
+pub mod ExpressionForms
+pub mod StatementForms
+pub mod CommandForms
+pub mod ModelForms
+pub mod RuleBodies
+pub mod Language
+pub mod Reading

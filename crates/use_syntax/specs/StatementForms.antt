@@ -1,0 +1,54 @@
+-- The productions of statements: each rule, and the parts of it before it.
+use Rattle.std.specs.Prelude.{List, [], ◌∷◌}
+use Rattle.use_text.specs.declared.token.TokenKind.TheVariants.{Assign, Colon, Comma, Create, Declare, Delete, Destroy, Do, Else, EndWord, For, From, If, In, Insert, Into, LeftParen, New, RightParen, Semicolon, SetWord, Then, While}
+use Rattle.use_syntax.specs.declared.rule.Rule.TheVariants as r
+use Rattle.use_syntax.specs.declared.part.Part.TheVariants as p
+use Rattle.use_syntax.specs.declared.row.Symbol.TheVariants.{Token, Rule, Part}
+use Rattle.use_syntax.specs.Forms.{Form, each, optional, or_else, repeated}
+use Rattle.use_syntax.specs.Firsts.{expressions, statements}
+
+abbrev pub statement_forms : List Form
+statement_forms =
+    -- block := [ stmt ] { ';' [ stmt ] }
+    (optional statements (Rule r.Stmt)) ∷
+    (each (Token Semicolon ∷ Part p.OptionalStmt ∷ [])) ∷
+    (repeated (Semicolon ∷ []) (Part p.MoreStmt)) ∷
+    (each (Part p.OptionalStmt ∷ Part p.MoreStmts ∷ [])) ∷
+    -- new := 'new' NAME [ '(' [ expr ] ')' ]
+    (optional expressions (Rule r.Expr)) ∷
+    (each (Token LeftParen ∷ Part p.OptionalExpr ∷ Token RightParen ∷ [])) ∷
+    (optional (LeftParen ∷ []) (Part p.NewName)) ∷
+    (each (Token New ∷ Part p.Name ∷ Part p.OptionalNewName ∷ [])) ∷
+    -- rhs := new | expr
+    (or_else (((New ∷ []), Rule r.New) ∷ []) (Rule r.Expr)) ∷
+    -- create := 'create' names ':' NAME
+    (each (Token Create ∷ Rule r.Names ∷ Token Colon ∷ Part p.Name ∷ [])) ∷
+    -- set := 'set' expr ':=' rhs
+    (each (Token SetWord ∷ Rule r.Expr ∷ Token Assign ∷ Rule r.Rhs ∷ [])) ∷
+    -- destroy := 'destroy' expr { ',' expr }
+    (each (Token Comma ∷ Rule r.Expr ∷ [])) ∷
+    (repeated (Comma ∷ []) (Part p.MoreExpr)) ∷
+    (each (Token Destroy ∷ Rule r.Expr ∷ Part p.MoreExprs ∷ [])) ∷
+    -- insert := 'insert' '(' expr ',' expr ')' 'into' NAME
+    (each (Token LeftParen ∷ Rule r.Expr ∷ Token Comma ∷ Rule r.Expr ∷ Token RightParen ∷ [])) ∷
+    (each (Token Insert ∷ Part p.Pair ∷ Token Into ∷ Part p.Name ∷ [])) ∷
+    -- delete := 'delete' '(' expr ',' expr ')' 'from' NAME
+    (each (Token Delete ∷ Part p.Pair ∷ Token From ∷ Part p.Name ∷ [])) ∷
+    -- declare := 'declare' names ':' type
+    (each (Token Declare ∷ Rule r.Names ∷ Part p.TypeMark ∷ [])) ∷
+    -- branch := 'if' expr 'then' block [ 'else' block ] 'end'
+    (each (Token Else ∷ Rule r.Block ∷ [])) ∷
+    (optional (Else ∷ []) (Part p.ElseBlock)) ∷
+    (each (Token If ∷ Rule r.Expr ∷ Token Then ∷ Rule r.Block ∷ Part p.OptionalElse ∷ Token EndWord ∷ [])) ∷
+    -- for := 'for' NAME 'in' expr 'do' block 'end'
+    (each (Token Do ∷ Rule r.Block ∷ Token EndWord ∷ [])) ∷
+    (each (Token For ∷ Part p.Name ∷ Token In ∷ Rule r.Expr ∷ Part p.LoopBody ∷ [])) ∷
+    -- while := 'while' expr 'do' block 'end'
+    (each (Token While ∷ Rule r.Expr ∷ Part p.LoopBody ∷ [])) ∷
+    -- assign := expr [ ':=' rhs ]
+    (each (Token Assign ∷ Rule r.Rhs ∷ [])) ∷
+    (optional (Assign ∷ []) (Part p.NewValue)) ∷
+    (each (Rule r.Expr ∷ Part p.OptionalNewValue ∷ [])) ∷
+    -- stmt := create | set | new | destroy | insert | delete | declare | branch | for | while | assign
+    (or_else (((Create ∷ []), Rule r.Create) ∷ ((SetWord ∷ []), Rule r.Set) ∷ ((New ∷ []), Rule r.New) ∷ ((Destroy ∷ []), Rule r.Destroy) ∷ ((Insert ∷ []), Rule r.Insert) ∷ ((Delete ∷ []), Rule r.Delete) ∷ ((Declare ∷ []), Rule r.Declare) ∷ ((If ∷ []), Rule r.Branch) ∷ ((For ∷ []), Rule r.For) ∷ ((While ∷ []), Rule r.While) ∷ []) (Rule r.Assign)) ∷
+    []

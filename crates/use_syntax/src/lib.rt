@@ -1,0 +1,26 @@
+//! The language: its grammar as one table, and the reading of models and commands by it.
+#![tactic(auto)]
+
+mod commands;
+mod expressions;
+mod fault;
+mod firsts;
+mod models;
+mod parsed;
+mod part;
+mod read;
+mod row;
+mod rule;
+mod rules;
+mod statements;
+mod table;
+mod types;
+
+pub use fault::SyntaxFault;
+pub use parsed::Parsed;
+pub use read::{read_command, read_model};
+pub use rule::Rule;
+pub use table::grammar;
+
+#[cfg(test)]
+mod tests;

@@ -1,0 +1,11 @@
+use grammar_core::Tree;
+use use_text::{Bytes, Tokens};
+
+/// A text that was read: its tree, its tokens, which the tree's leaves name by their places, and the
+/// text, in which the tokens stand.
+#[derive(Debug, Drop)]
+pub struct Parsed {
+    pub tree: Tree,
+    pub tokens: Tokens,
+    pub text: Bytes,
+}

@@ -1,0 +1,89 @@
+use crate::Rule;
+use crate::firsts::{EXPRESSIONS, STATEMENTS};
+use crate::part::Part;
+use crate::row::Row;
+use crate::row::Row::{Each, Optional, OrElse, Repeated};
+use crate::row::Symbol::{Part as P, Rule as R, Token as T};
+use use_text::TokenKind::{
+    Assign, Colon, Comma, Create, Declare, Delete, Destroy, Do, Else, EndWord, For, From, If, In,
+    Insert, Into, LeftParen, New, RightParen, Semicolon, SetWord, Then, While,
+};
+
+/// The productions of statements, those of `Part` in order.
+pub(crate) static STATEMENT_PARTS: [Row; 28] = [
+    // block := [ stmt ] { ';' [ stmt ] }
+    Optional(STATEMENTS, R(Rule::Stmt)),
+    Each(&[T(Semicolon), P(Part::OptionalStmt)]),
+    Repeated(&[Semicolon], P(Part::MoreStmt)),
+    Each(&[P(Part::OptionalStmt), P(Part::MoreStmts)]),
+    // new := 'new' NAME [ '(' [ expr ] ')' ]
+    Optional(EXPRESSIONS, R(Rule::Expr)),
+    Each(&[T(LeftParen), P(Part::OptionalExpr), T(RightParen)]),
+    Optional(&[LeftParen], P(Part::NewName)),
+    Each(&[T(New), P(Part::Name), P(Part::OptionalNewName)]),
+    // rhs := new | expr
+    OrElse(&[(&[New], R(Rule::New))], R(Rule::Expr)),
+    // create := 'create' names ':' NAME
+    Each(&[T(Create), R(Rule::Names), T(Colon), P(Part::Name)]),
+    // set := 'set' expr ':=' rhs
+    Each(&[T(SetWord), R(Rule::Expr), T(Assign), R(Rule::Rhs)]),
+    // destroy := 'destroy' expr { ',' expr }
+    Each(&[T(Comma), R(Rule::Expr)]),
+    Repeated(&[Comma], P(Part::MoreExpr)),
+    Each(&[T(Destroy), R(Rule::Expr), P(Part::MoreExprs)]),
+    // insert := 'insert' '(' expr ',' expr ')' 'into' NAME
+    Each(&[
+        T(LeftParen),
+        R(Rule::Expr),
+        T(Comma),
+        R(Rule::Expr),
+        T(RightParen),
+    ]),
+    Each(&[T(Insert), P(Part::Pair), T(Into), P(Part::Name)]),
+    // delete := 'delete' '(' expr ',' expr ')' 'from' NAME
+    Each(&[T(Delete), P(Part::Pair), T(From), P(Part::Name)]),
+    // declare := 'declare' names ':' type
+    Each(&[T(Declare), R(Rule::Names), P(Part::TypeMark)]),
+    // branch := 'if' expr 'then' block [ 'else' block ] 'end'
+    Each(&[T(Else), R(Rule::Block)]),
+    Optional(&[Else], P(Part::ElseBlock)),
+    Each(&[
+        T(If),
+        R(Rule::Expr),
+        T(Then),
+        R(Rule::Block),
+        P(Part::OptionalElse),
+        T(EndWord),
+    ]),
+    // for := 'for' NAME 'in' expr 'do' block 'end'
+    Each(&[T(Do), R(Rule::Block), T(EndWord)]),
+    Each(&[
+        T(For),
+        P(Part::Name),
+        T(In),
+        R(Rule::Expr),
+        P(Part::LoopBody),
+    ]),
+    // while := 'while' expr 'do' block 'end'
+    Each(&[T(While), R(Rule::Expr), P(Part::LoopBody)]),
+    // assign := expr [ ':=' rhs ]
+    Each(&[T(Assign), R(Rule::Rhs)]),
+    Optional(&[Assign], P(Part::NewValue)),
+    Each(&[R(Rule::Expr), P(Part::OptionalNewValue)]),
+    // stmt := create | set | new | destroy | insert | delete | declare | branch | for | while | assign
+    OrElse(
+        &[
+            (&[Create], R(Rule::Create)),
+            (&[SetWord], R(Rule::Set)),
+            (&[New], R(Rule::New)),
+            (&[Destroy], R(Rule::Destroy)),
+            (&[Insert], R(Rule::Insert)),
+            (&[Delete], R(Rule::Delete)),
+            (&[Declare], R(Rule::Declare)),
+            (&[If], R(Rule::Branch)),
+            (&[For], R(Rule::For)),
+            (&[While], R(Rule::While)),
+        ],
+        R(Rule::Assign),
+    ),
+];

@@ -1,0 +1,50 @@
+use crate::Rule;
+use crate::firsts::{KINDS, NAMES};
+use crate::part::Part;
+use crate::row::Row;
+use crate::row::Row::{Choice, Each, Optional, Repeated};
+use crate::row::Symbol::{Part as P, Rule as R, Token as T};
+use use_text::TokenKind::{
+    Bag, Check, Colon, Comma, Create, Exit, Info, LeftParen, Name, Open, Openter, Opexit,
+    OrderedSet, Quit, Redo, Reset, RightParen, Sequence, Set, SetWord, Undo, View,
+};
+
+/// The productions of names and types, those of `Part` in order.
+pub(crate) static TYPE_PARTS: [Row; 10] = [
+    // nothing at all
+    Each(&[]),
+    // NAME: a name or a command word
+    Choice(&[
+        (&[Name], T(Name)),
+        (&[Check], T(Check)),
+        (&[Create], T(Create)),
+        (&[Exit], T(Exit)),
+        (&[Info], T(Info)),
+        (&[Open], T(Open)),
+        (&[Opexit], T(Opexit)),
+        (&[Openter], T(Openter)),
+        (&[Quit], T(Quit)),
+        (&[Redo], T(Redo)),
+        (&[Reset], T(Reset)),
+        (&[SetWord], T(SetWord)),
+        (&[Undo], T(Undo)),
+        (&[View], T(View)),
+    ]),
+    // names := NAME { ',' NAME }
+    Each(&[T(Comma), P(Part::Name)]),
+    Repeated(&[Comma], P(Part::MoreName)),
+    Each(&[P(Part::Name), P(Part::MoreNames)]),
+    // 'Set' | 'OrderedSet' | 'Bag' | 'Sequence'
+    Choice(&[
+        (&[Set], T(Set)),
+        (&[OrderedSet], T(OrderedSet)),
+        (&[Bag], T(Bag)),
+        (&[Sequence], T(Sequence)),
+    ]),
+    // type := NAME | kind '(' type ')'
+    Each(&[P(Part::Kind), T(LeftParen), R(Rule::Type), T(RightParen)]),
+    Choice(&[(NAMES, P(Part::Name)), (KINDS, P(Part::CollectionType))]),
+    // [ ':' type ]
+    Each(&[T(Colon), R(Rule::Type)]),
+    Optional(&[Colon], P(Part::TypeMark)),
+];
