@@ -14,7 +14,7 @@ use Rattle.use_text.specs.Codes.{code_of}
 use Rattle.use_text.specs.Places.{place_at, behind_all}
 use Rattle.use_text.specs.Refusals.{refusal_at}
 use Rattle.use_text.specs.Pieces.{is_white, is_name_byte, begins, number_of_digits}
-use Rattle.use_text.specs.Tokens.{Tokens, tokens}
+use Rattle.use_syntax.specs.Reading.{Reading, parsed, refused, read_command}
 use Rattle.use_session.specs.declared.command.Command.{Command}
 use Rattle.use_session.specs.declared.command.Command.TheVariants.{Empty, Query, Refused}
 
@@ -60,9 +60,9 @@ abbrev pub command_of_list : List ℕ → List Token → Command
 command_of_list text [] = Empty
 command_of_list text (t ∷ ts) = if is_kind End t then Empty else query_of t.place (sum_numbers text (t ∷ ts))
 
-abbrev pub command_of_tokens : List ℕ → Tokens → Command
-command_of_tokens text (Ok ts) = command_of_list text ts
-command_of_tokens text (Err r) = Refused r
+abbrev pub command_of_reading : List ℕ → Reading → Command
+command_of_reading text (parsed ts tree) = command_of_list text ts
+command_of_reading text (refused r) = Refused r
 
 -- how many bytes of white space a text begins with
 abbrev pub white_length : List ℕ → ℕ
@@ -81,7 +81,7 @@ abbrev pub first_place : ℕ → List ℕ → Place
 first_place line text = behind_all (place_at line 1) (take (white_length text) text)
 
 abbrev pub command_of_text : ℕ → List ℕ → Command
-command_of_text line text = if opens_file text then unbuilt (first_place line text) else command_of_tokens text (tokens line text)
+command_of_text line text = if opens_file text then unbuilt (first_place line text) else command_of_reading text (read_command line text)
 
 -- by how the command ended
 abbrev pub command_of_fate : Fate → ℕ → List ℕ → Command

@@ -3,14 +3,18 @@ ghost use Rattle.std.specs.Int.{IsNonNegative};
 ghost use Rattle.use_text.specs.Cuts.{IsCommand};
 ghost use Rattle.use_text.specs.Places.{place_at};
 ghost use Rattle.use_text.specs.Refusals.{refusal_at};
-ghost use Rattle.use_text.specs.Tokens.{tokens, IsWithin};
-ghost use Rattle.use_session.specs.Commands.{command_of, command_of_text, command_of_tokens, command_of_list, query_of, unbuilt, AddsUp};
+ghost use Rattle.use_text.specs.Tokens.{IsWithin};
+ghost use Rattle.use_syntax.specs.Language.{language};
+ghost use Rattle.use_syntax.specs.Reading.{read_command};
+ghost use Rattle.use_session.specs.Commands.{command_of, command_of_text, command_of_reading, command_of_list, query_of, unbuilt, AddsUp};
 
 use crate::file_word::{first_place, opens_file};
 use crate::sum::{is_kind, sum_numbers};
+use grammar_core::Grammar;
 use std::alloc::{AllocError, Global};
 use use_lists::Items;
-use use_text::{Code, Cut, Fate, LexFault, Place, Refusal, Token, TokenKind, lex};
+use use_syntax::{SyntaxFault, read_command};
+use use_text::{Code, Cut, Fate, Place, Refusal, Token, TokenKind};
 
 /// What a command asks for.
 #[derive(Debug, Drop, PartialEq, Eq)]
@@ -19,7 +23,7 @@ pub enum Command {
     Empty,
     /// The value of a sum of these numbers.
     Query(Items<i128>),
-    /// It breaks a rule of cuts or tokens, or its form is not built yet.
+    /// It breaks a rule of cuts, tokens or grammar, or its form is not built yet.
     Refused(Refusal),
 }
 
@@ -63,19 +67,26 @@ fn query_of(place: Place, numbers: Option<Items<i128>>) -> Command
 }
 
 /// Reads a command of the stream.
-pub fn read_command(alloc: Global, cut: &Cut) -> Result<Command, AllocError>
-    requires { IsCommand 4000000000 cut.now }
+pub fn read_cut(alloc: Global, grammar: &Grammar, cut: &Cut) -> Result<Command, AllocError>
+    requires table { grammar.now ≡ language }
+    requires command { IsCommand 4000000000 cut.now }
     ensures command { IfOk result (λ command. command ≡ command_of cut.now) }
     ensures not_negative { IfOk result AddsUp }
 {
     match cut.fate {
-        Fate::Whole => read_text(alloc, cut.text.as_slice(), cut.first_line),
+        Fate::Whole => read_text(alloc, grammar, cut.text.as_slice(), cut.first_line),
         Fate::TooLong => Ok(uncut(Code::K1, cut.first_line)),
         Fate::Unfinished => Ok(uncut(Code::K2, cut.first_line)),
     }
 }
 
-fn read_text(alloc: Global, text: &[u8], line: u32) -> Result<Command, AllocError>
+fn read_text(
+    alloc: Global,
+    grammar: &Grammar,
+    text: &[u8],
+    line: u32,
+) -> Result<Command, AllocError>
+    requires table { grammar.now ≡ language }
     requires text { length text.now ≤ 65536 }
     requires line { line ≤ 4000000000 }
     ensures command { IfOk result (λ command. command ≡ command_of_text line text.now) }
@@ -84,20 +95,26 @@ fn read_text(alloc: Global, text: &[u8], line: u32) -> Result<Command, AllocErro
     if opens_file(text) {
         Ok(unbuilt(first_place(line, text)))
     } else {
-        read_tokens(alloc, text, line)
+        read_parsed(alloc, grammar, text, line)
     }
 }
 
-fn read_tokens(alloc: Global, text: &[u8], line: u32) -> Result<Command, AllocError>
+fn read_parsed(
+    alloc: Global,
+    grammar: &Grammar,
+    text: &[u8],
+    line: u32,
+) -> Result<Command, AllocError>
+    requires table { grammar.now ≡ language }
     requires text { length text.now ≤ 65536 }
     requires line { line ≤ 4000000000 }
-    ensures command { IfOk result (λ command. command ≡ command_of_tokens text.now (tokens line text.now)) }
+    ensures command { IfOk result (λ command. command ≡ command_of_reading text.now (read_command line text.now)) }
     ensures not_negative { IfOk result AddsUp }
 {
-    match lex(alloc, text, line) {
-        Ok(tokens) => read_list(alloc, text, tokens.as_slice()),
-        Err(LexFault::Bad(refusal)) => Ok(Command::Refused(refusal)),
-        Err(LexFault::Memory) => Err(AllocError),
+    match read_command(alloc, grammar, text, line) {
+        Ok(parsed) => read_list(alloc, text, parsed.tokens.as_slice()),
+        Err(SyntaxFault::Refused(refusal)) => Ok(Command::Refused(refusal)),
+        Err(SyntaxFault::Memory) => Err(AllocError),
     }
 }
 

@@ -1,14 +1,17 @@
 ghost use Rattle.std.specs.Prelude.{◌≡◌, ◌++◌, ◌↔◌, IsTrue, IsErrOf, IfOk, OnOk, is_err, false, ◌+◌};
 ghost use Rattle.use_text.specs.Cuts.{IsCommand};
+ghost use Rattle.use_syntax.specs.Language.{language};
 ghost use Rattle.use_session.specs.Machine.{step, start};
 
 use crate::answer::carry_out;
-use crate::command::read_command;
+use crate::command::read_cut;
+use grammar_core::{Grammar, GrammarFault};
 use std::alloc::{AllocError, Global};
 use std::marker::Model;
 use std::sync::ledger::Ledger;
 use thiserror::Error;
 use use_steps::Steps;
+use use_syntax::grammar;
 use use_text::{Code, Cut};
 
 /// How a command ended.
@@ -34,24 +37,37 @@ pub enum SessionFault {
 #[derive(Drop)]
 pub struct Session {
     alloc: Global,
+    grammar: Grammar,
     over: bool,
 }
 
 impl Model for Session {
+    ghost use Rattle.std.specs.Prelude.{◌≡◌};
+    ghost use Rattle.use_syntax.specs.Language.{language};
     ghost use Rattle.use_session.specs.Machine.{Standing, start};
 
     ghost Value = { Standing };
 
     ghost view = { λ s. record { over = s.over; machine = start } };
+
+    ghost invariant = { λ s. s.grammar ≡ language };
 }
 
 impl Session {
     /// A session before its first command.
-    pub fn new(alloc: Global) -> Session
-        ensures over { result.over ≡ false }
-        ensures machine { result.machine ≡ start }
+    pub fn new(alloc: Global) -> Result<Session, AllocError>
+        ensures over { IfOk result (λ s. s.over ≡ false) }
+        ensures machine { IfOk result (λ s. s.machine ≡ start) }
     {
-        Session { alloc, over: false }
+        match grammar(alloc) {
+            Ok(grammar) => Ok(Session {
+                alloc,
+                grammar,
+                over: false,
+            }),
+            Err(GrammarFault::Memory) => Err(AllocError),
+            Err(GrammarFault::Unfit { prod: _ }) => unreachable!(),
+        }
     }
 
     /// Carries out a command and appends its answer to `out`. After want of memory, `out` is in no
@@ -76,7 +92,7 @@ impl Session {
         if self.over {
             return Err(SessionFault::Over);
         }
-        match answer(self.alloc, cut, out) {
+        match answer(self.alloc, &self.grammar, cut, out) {
             Ok(turn) => Ok(turn),
             Err(_) => {
                 self.over = true;
@@ -86,11 +102,17 @@ impl Session {
     }
 }
 
-fn answer(alloc: Global, cut: &Cut, out: &mut Vec<u8>) -> Result<Turn, AllocError>
-    requires { IsCommand 4000000000 cut.now }
+fn answer(
+    alloc: Global,
+    grammar: &Grammar,
+    cut: &Cut,
+    out: &mut Vec<u8>,
+) -> Result<Turn, AllocError>
+    requires table { grammar.now ≡ language }
+    requires command { IsCommand 4000000000 cut.now }
     ensures bytes { OnOk result (out.new.items ≡ out.old.items ++ (step start cut.now).bytes) }
     ensures turn { IfOk result (λ turn. turn ≡ (step start cut.now).turn) }
 {
-    let command = read_command(alloc, cut)?;
+    let command = read_cut(alloc, grammar, cut)?;
     carry_out(alloc, &command, out)
 }

@@ -21,7 +21,7 @@ fn answered<L: Ledger>(
     requires short { length text.now ≤ 65536 }
 {
     let mut steps = Steps::<L>::new(blank);
-    let mut session = Session::new(alloc);
+    let mut session = Session::new(alloc)?;
     let cut = Cut {
         text: Bytes::from_slice(alloc, text)?,
         first_line: 7,
@@ -47,8 +47,8 @@ const ANSWERS: [(&str, &str); 14] = [
         "refused L3 at 7:3: number past the range\n",
     ),
     ("? 1 * 2", "refused S0 at 7:1: form is not built yet\n"),
-    ("  ? 1 +", "refused S0 at 7:3: form is not built yet\n"),
-    ("? 1 2", "refused S0 at 7:1: form is not built yet\n"),
+    ("  ? 1 +", "refused S1 at 7:8: unexpected token\n"),
+    ("? 1 2", "refused S1 at 7:5: unexpected token\n"),
     ("\n check", "refused S0 at 8:2: form is not built yet\n"),
     (
         "? 'x",

@@ -1,5 +1,5 @@
 -- Model files.
-use Rattle.std.specs.Prelude.{ℕ, Bool, false, ◌&&◌, ◌||◌, ◌==◌, nat_lt, nat_le, if◌then◌else◌, List, [], ◌∷◌, length, Option, Some, None, Ok, Err}
+use Rattle.std.specs.Prelude.{ℕ, Bool, false, ◌&&◌, ◌||◌, ◌==◌, nat_lt, nat_le, if◌then◌else◌, List, [], ◌∷◌, length, Option, Some, None}
 use Rattle.use_text.specs.declared.token.Token.{Token}
 use Rattle.use_text.specs.declared.token.TokenKind.{TokenKind}
 use Rattle.use_text.specs.declared.token.TokenKind.TheVariants.{End, Name, Model, Check}
@@ -10,7 +10,7 @@ use Rattle.use_text.specs.Kinds.{number_of}
 use Rattle.use_text.specs.declared.place.Place.{Place}
 use Rattle.use_text.specs.Places.{place_at}
 use Rattle.use_text.specs.Refusals.{refusal_at}
-use Rattle.use_text.specs.Tokens.{Tokens, tokens}
+use Rattle.use_syntax.specs.Reading.{Reading, parsed, refused, read_model}
 
 -- the most bytes of a model file
 abbrev pub max_model : ℕ
@@ -37,13 +37,13 @@ abbrev pub refusal_of_list : List Token → Option Refusal
 refusal_of_list [] = unbuilt (place_at 1 1)
 refusal_of_list (t ∷ ts) = if is_empty_model (t ∷ ts) then None else unbuilt t.place
 
-abbrev pub refusal_of_tokens : Tokens → Option Refusal
-refusal_of_tokens (Ok ts) = refusal_of_list ts
-refusal_of_tokens (Err r) = Some r
+abbrev pub refusal_of_reading : Reading → Option Refusal
+refusal_of_reading (parsed ts tree) = refusal_of_list ts
+refusal_of_reading (refused r) = Some r
 
--- why a model file is refused, if it is: there is none, it is too long, a rule of tokens is broken, or its form is not built yet
+-- why a model file is refused, if it is: there is none, it is too long, a rule of tokens or grammar is broken, or its form is not built yet
 abbrev pub model_refusal : Option (List ℕ) → Option Refusal
 model_refusal None = Some (refusal_at (code_of F 1) (place_at 0 0))
 model_refusal (Some text) =
     if nat_lt max_model (length text) then Some (refusal_at (code_of F 2) (place_at 0 0))
-    else refusal_of_tokens (tokens 1 text)
+    else refusal_of_reading (read_model text)

@@ -1,15 +1,18 @@
-ghost use Rattle.std.specs.Prelude.{◌≡◌, ◌≤◌, ◌==◌, IfOk, IfSome, IsErrOf, length};
+ghost use Rattle.std.specs.Prelude.{◌≡◌, ◌≤◌, ◌==◌, IfOk, IfSome, IsErrOf, IsOkUnless, length};
 ghost use Rattle.std.specs.FinMap.{get};
 ghost use Rattle.use_io.specs.Causes.{Rose};
 ghost use Rattle.use_text.specs.Places.{place_at};
 ghost use Rattle.use_text.specs.Refusals.{refusal_at};
-ghost use Rattle.use_text.specs.Tokens.{tokens};
-ghost use Rattle.use_shell.specs.Models.{is_kind, is_name, is_empty_model, unbuilt, refusal_of_list, refusal_of_tokens, model_refusal};
+ghost use Rattle.use_syntax.specs.Language.{language};
+ghost use Rattle.use_syntax.specs.Reading.{read_model};
+ghost use Rattle.use_shell.specs.Models.{is_kind, is_name, is_empty_model, unbuilt, refusal_of_list, refusal_of_reading, model_refusal};
 
 use crate::stop::Stop;
 use std::alloc::Global;
+use grammar_core::{Grammar, GrammarFault};
 use use_io::{Shelf, ShelfFault};
-use use_text::{Code, LexFault, Place, Refusal, Token, TokenKind, lex};
+use use_syntax::{SyntaxFault, grammar, read_model};
+use use_text::{Code, Place, Refusal, Token, TokenKind};
 
 /// The most bytes of a model file.
 const MAX_MODEL: u32 = 4_194_304;
@@ -51,17 +54,29 @@ fn refusal_of_list(tokens: &[Token]) -> Option<Refusal>
     }
 }
 
+/// The grammar of the language.
+fn language(alloc: Global) -> Result<Grammar, Stop>
+    ensures table { IfOk result (λ g. g ≡ language) }
+    ensures memory { IsOkUnless result Stop.Memory }
+{
+    match grammar(alloc) {
+        Ok(grammar) => Ok(grammar),
+        Err(GrammarFault::Memory) => Err(Stop::Memory),
+        Err(GrammarFault::Unfit { prod: _ }) => unreachable!(),
+    }
+}
+
 /// Why a model of this text is refused, if it is.
 fn refusal_of_text(alloc: Global, text: &[u8]) -> Result<Option<Refusal>, Stop>
     requires { length text.now ≤ 4194304 }
-    ensures refusal { IfOk result (λ refusal. refusal ≡ refusal_of_tokens (tokens 1 text.now)) }
-    ensures no_read { ¬ IsErrOf result Stop.Read }
-    ensures no_write { ¬ IsErrOf result Stop.Write }
+    ensures refusal { IfOk result (λ refusal. refusal ≡ refusal_of_reading (read_model text.now)) }
+    ensures memory { IsOkUnless result Stop.Memory }
 {
-    match lex(alloc, text, 1) {
-        Ok(tokens) => Ok(refusal_of_list(tokens.as_slice())),
-        Err(LexFault::Bad(refusal)) => Ok(Some(refusal)),
-        Err(LexFault::Memory) => Err(Stop::Memory),
+    let grammar = language(alloc)?;
+    match read_model(alloc, &grammar, text) {
+        Ok(parsed) => Ok(refusal_of_list(parsed.tokens.as_slice())),
+        Err(SyntaxFault::Refused(refusal)) => Ok(Some(refusal)),
+        Err(SyntaxFault::Memory) => Err(Stop::Memory),
     }
 }
 

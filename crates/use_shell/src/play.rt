@@ -167,7 +167,7 @@ fn play_front<K: Sink, L: Ledger>(
     ensures no_read { ¬ IsErrOf result Stop.Read }
     ensures steps { steps.new ≡ steps.old }
 {
-    let mut session = Session::new(alloc);
+    let mut session = Session::new(alloc)?;
     let mut cutter = Cutter::new(alloc);
     play_ended(alloc, &mut session, &mut cutter, text, sink, steps)?;
     Ok(())
@@ -188,7 +188,7 @@ fn play_whole<K: Sink, L: Ledger>(
     ensures no_read { ¬ IsErrOf result Stop.Read }
     ensures steps { steps.new ≡ steps.old }
 {
-    let mut session = Session::new(alloc);
+    let mut session = Session::new(alloc)?;
     let mut cutter = Cutter::new(alloc);
     play_ended(alloc, &mut session, &mut cutter, text, sink, steps)?;
     play_last(alloc, &mut session, &mut cutter, sink, steps)?;
