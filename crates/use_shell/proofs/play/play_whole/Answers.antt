@@ -4,7 +4,7 @@ use Rattle.use_shell.proofs.PlayLemmas.{cuts_extend, last_on, last_front}
 use Rattle.use_shell.proofs.play.play_whole.Goals as goal
 
 pub returns-in_err-play_ended-clause-err : goal.returns-in_err-play_ended-clause-err
-returns-in_err-play_ended-clause-err g c = on_err c.from_residual.result _ (c.in_err-play_ended.ensures.err (cuts c.args.text.now) (cuts_extend c.args.text.now c.new-cutter.ensures.stays))
+returns-in_err-play_ended-clause-err g c = on_err c.from_residual-in_err-play_ended.result _ (c.in_err-play_ended.ensures.err (cuts c.args.text.now) (cuts_extend c.args.text.now c.new-cutter.ensures.stays))
 
 pub returns-in_err-play_last-clause-err : goal.returns-in_err-play_last-clause-err
 returns-in_err-play_last-clause-err g c =
