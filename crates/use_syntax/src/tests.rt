@@ -1,4 +1,4 @@
-ghost use Rattle.std.specs.Prelude.{◌≡◌, ◌≤◌, ◌<◌, length};
+ghost use Rattle.std.specs.Prelude.{◌≡◌, ◌≤◌, ◌<◌, IfOk, length, string_len};
 ghost use Rattle.use_syntax.specs.Language.{language};
 
 use super::*;
@@ -185,6 +185,67 @@ fn every_production_is_read(rt: HostRuntime) -> Result<(), Fail> {
         let given = read_model(alloc, &g, text.as_bytes());
         assert!(rt; given.is_ok(), "at {text}");
     }
+    Ok(())
+}
+
+const EMPLOYEES: &str = "model Employees
+enum Grade {junior, senior}
+abstract class Being
+attributes
+  name : String
+end
+class Person < Being
+attributes
+  age : Integer
+  salary : Integer
+  grade : Grade
+operations
+  raise(amount : Integer) : Integer
+  begin
+    self.salary := self.salary + amount;
+    result := self.salary
+  end
+    pre positive: amount > 0
+    post paid: self.salary = self.salary@pre + amount
+  label() : String = self.name.concat('!')
+end
+class Department < Being
+attributes
+  budget : Integer
+end
+class Project < Being
+end
+association WorksIn between
+  Person[*] role staff
+  Department[1] role dept
+end
+association WorksOn between
+  Person[*] role member
+  Project[*] role project ordered
+end
+composition Controls between
+  Department[1] role owner
+  Project[*] role owned
+end
+constraints
+context Person
+  inv adult: age >= 18
+  inv paid: salary > 0
+context Department
+  inv afford: budget >= staff.salary->sum()
+  inv named: name.size() > 0
+context Project
+  inv staffed: member->notEmpty()
+  inv local: member->forAll(m | m.dept = owner)
+";
+
+#[test]
+fn a_model_is_read_whole(rt: HostRuntime) -> Result<(), Fail> {
+    let alloc = rt.alloc();
+    let g = grammar(alloc)?;
+    assert!(rt; EMPLOYEES.len() < 4000);
+    let given = read_model(alloc, &g, EMPLOYEES.as_bytes());
+    assert!(rt; given.is_ok());
     Ok(())
 }
 
