@@ -112,7 +112,7 @@ fn read_parsed(
     ensures not_negative { IfOk result AddsUp }
 {
     match read_command(alloc, grammar, text, line) {
-        Ok(parsed) => read_list(alloc, text, parsed.tokens.as_slice()),
+        Ok(parsed) => read_list(alloc, parsed.text.as_slice(), parsed.tokens.as_slice()),
         Err(SyntaxFault::Refused(refusal)) => Ok(Command::Refused(refusal)),
         Err(SyntaxFault::Memory) => Err(AllocError),
     }

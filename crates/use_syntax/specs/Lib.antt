@@ -9,3 +9,4 @@ pub mod ModelForms
 pub mod RuleBodies
 pub mod Language
 pub mod Reading
+pub mod Nodes

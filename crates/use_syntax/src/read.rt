@@ -1,4 +1,4 @@
-ghost use Rattle.std.specs.Prelude.{◌≡◌, ◌+◌, ◌≤◌, ◌<◌, length, All, IfOk};
+ghost use Rattle.std.specs.Prelude.{◌≡◌, ◌≤◌, All, IfOk, length};
 ghost use Rattle.use_text.specs.Tokens.{IsWithin};
 ghost use Rattle.use_syntax.specs.Language.{language};
 ghost use Rattle.use_syntax.specs.Reading.{place_in, read, read_command, read_model, read_tokens, Reads};
@@ -31,8 +31,8 @@ fn read_tokens(
     requires table { g.now ≡ language }
     requires few { length tokens ≤ 4194305 }
     requires within { All (IsWithin (length text.now)) tokens }
-    ensures reads { Reads (read_tokens (number_of_rule start) tokens) text.now result }
-    ensures within { IfOk result (λ p. All (IsWithin (length text.now)) p.tokens) }
+    ensures reading { Reads (read_tokens (number_of_rule start) tokens) text.now result }
+    ensures within { IfOk result (λ p. All (IsWithin (length p.text)) p.tokens) }
 {
     match parse(alloc, g, start.number(), tokens.as_slice()) {
         Ok(tree) => Ok(Parsed {
@@ -63,8 +63,8 @@ fn read(
     requires table { g.now ≡ language }
     requires text { length text.now ≤ 4194304 }
     requires line { first_line ≤ 4000000000 }
-    ensures reads { Reads (read (number_of_rule start) first_line text.now) text.now result }
-    ensures within { IfOk result (λ p. All (IsWithin (length text.now)) p.tokens) }
+    ensures reading { Reads (read (number_of_rule start) first_line text.now) text.now result }
+    ensures within { IfOk result (λ p. All (IsWithin (length p.text)) p.tokens) }
 {
     match lex(alloc, text, first_line) {
         Ok(tokens) => read_tokens(alloc, g, start, tokens, text),
@@ -79,8 +79,8 @@ fn read(
 pub fn read_model(alloc: Global, g: &Grammar, text: &[u8]) -> Result<Parsed, SyntaxFault>
     requires table { g.now ≡ language }
     requires text { length text.now ≤ 4194304 }
-    ensures reads { Reads (read_model text.now) text.now result }
-    ensures within { IfOk result (λ p. All (IsWithin (length text.now)) p.tokens) }
+    ensures reading { Reads (read_model text.now) text.now result }
+    ensures within { IfOk result (λ p. All (IsWithin (length p.text)) p.tokens) }
 {
     read(alloc, g, Rule::File, text, 1)
 }
@@ -95,8 +95,8 @@ pub fn read_command(
     requires table { g.now ≡ language }
     requires text { length text.now ≤ 4194304 }
     requires line { first_line ≤ 4000000000 }
-    ensures reads { Reads (read_command first_line text.now) text.now result }
-    ensures within { IfOk result (λ p. All (IsWithin (length text.now)) p.tokens) }
+    ensures reading { Reads (read_command first_line text.now) text.now result }
+    ensures within { IfOk result (λ p. All (IsWithin (length p.text)) p.tokens) }
 {
     read(alloc, g, Rule::Command, text, first_line)
 }

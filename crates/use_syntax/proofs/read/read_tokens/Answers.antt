@@ -16,19 +16,19 @@ parse-requires-clause-rule c =
     let e = ap (λ (t : Table). length t.rules) c.requires.table in
     omega (arith, e, rules_there, c.number.ensures.small)
 
-pub returns-in-Ok-clause-reads : goal.returns-in-Ok-clause-reads
-returns-in-Ok-clause-reads c =
+pub returns-in-Ok-clause-reading : goal.returns-in-Ok-clause-reading
+returns-in-Ok-clause-reading c =
     let e = read_tree c.args.g.now c.args.tokens c.as_slice.result.now (number_of_rule c.args.start) c.number.result c.requires.table c.as_slice.ensures c.number.ensures.is c.in-Ok.tree c.in-Ok.ensures.verdict in
     (e ∙ ap (λ l. parsed l (root_tree c.in-Ok.tree)) (sym c.tokens.view_is), c.in_ok-from_slice-in-Ok.ensures)
 
-pub returns-in-Err-Stuck-clause-reads : goal.returns-in-Err-Stuck-clause-reads
-returns-in-Err-Stuck-clause-reads c =
+pub returns-in-Err-Stuck-clause-reading : goal.returns-in-Err-Stuck-clause-reading
+returns-in-Err-Stuck-clause-reading c =
     let e = read_stuck c.args.g.now c.args.tokens c.as_slice.result.now (number_of_rule c.args.start) c.number.result c.requires.table c.as_slice.ensures c.number.ensures.is c.in-Err-Stuck.token (rw c.in-Err-Stuck.field-0-is at c.in-Err-Stuck.ensures.verdict) in
     let at : c.place_in.result ≡ place_in c.args.tokens c.in-Err-Stuck.token = rw (← c.in-Err-Stuck.token-is, ← c.as_slice-in-Err-Stuck.ensures) c.place_in.ensures in
     e ∙ ap (λ (p : Place). refused (refusal_at (code_of S 1) p)) (sym at)
 
-pub returns-clause-reads : goal.returns-clause-reads
-returns-clause-reads c =
+pub returns-clause-reading : goal.returns-clause-reading
+returns-clause-reading c =
     let e = read_deep c.args.g.now c.args.tokens c.as_slice.result.now (number_of_rule c.args.start) c.number.result c.requires.table c.as_slice.ensures c.number.ensures.is c.in-Err-Deep.token (rw c.in-Err-Deep.field-0-is at c.in-Err-Deep.ensures.verdict) in
     let at : c.place_in-in-Err-Deep.result ≡ place_in c.args.tokens c.in-Err-Deep.token = rw (← c.in-Err-Deep.token-is, ← c.as_slice-in-Err-Deep.ensures) c.place_in-in-Err-Deep.ensures in
     e ∙ ap (λ (p : Place). refused (refusal_at (code_of S 2) p)) (sym at)
