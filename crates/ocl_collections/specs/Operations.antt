@@ -35,24 +35,28 @@ of_none AsOrderedSet kind xs = canon K.OrderedSet xs
 of_none Flatten kind xs = flattened kind xs
 of_none _ kind xs = Invalid
 
--- the operations of one argument
+-- the operations of two collections
+abbrev pub of_pair : CollOp → Kind → List Value → Kind → List Value → Value
+of_pair IncludesAll kind xs other ys = V.Bool (includes_all xs ys)
+of_pair ExcludesAll kind xs other ys = V.Bool (excludes_all xs ys)
+of_pair Union kind xs other ys = union kind xs other ys
+of_pair Intersection kind xs other ys = intersection kind xs other ys
+of_pair Minus kind xs other ys = difference kind xs other ys
+of_pair SymmetricDifference kind xs other ys = symmetric_difference kind xs other ys
+of_pair _ kind xs other ys = Invalid
+
+-- the operations of one argument, which is an element, a place or else a collection
 abbrev pub of_one : CollOp → Kind → List Value → Value → Value
 of_one Includes kind xs x = V.Bool (includes xs x)
 of_one Excludes kind xs x = V.Bool (not (includes xs x))
 of_one Count kind xs x = Int (pos (count xs x))
-of_one IncludesAll kind xs c = with_collection c (λ other ys. V.Bool (includes_all xs ys))
-of_one ExcludesAll kind xs c = with_collection c (λ other ys. V.Bool (excludes_all xs ys))
 of_one Including kind xs x = including kind xs x
 of_one Excluding kind xs x = excluding kind xs x
-of_one Union kind xs c = with_collection c (union kind xs)
-of_one Intersection kind xs c = with_collection c (intersection kind xs)
-of_one Minus kind xs c = with_collection c (difference kind xs)
-of_one SymmetricDifference kind xs c = with_collection c (symmetric_difference kind xs)
 of_one Append kind xs x = append kind xs x
 of_one Prepend kind xs x = prepend kind xs x
 of_one At kind xs i = with_integer i (at kind xs)
 of_one IndexOf kind xs x = index_of kind xs x
-of_one _ kind xs x = Invalid
+of_one op kind xs x = with_collection x (of_pair op kind xs)
 
 -- the operations of two arguments
 abbrev pub of_two : CollOp → Kind → List Value → Value → Value → Value

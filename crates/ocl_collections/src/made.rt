@@ -6,6 +6,7 @@ use crate::depth::most;
 use ocl_values::{Kind, Value};
 use std::alloc::{AllocError, Global};
 use use_lists::Items;
+use use_orders::append_copies;
 
 fn is_invalid(v: &Value) -> bool
     ensures { result ≡ invalid v.now }
@@ -36,6 +37,7 @@ fn kept(alloc: Global, kind: Kind, items: Vec<Value>) -> Result<Vec<Value>, Allo
     }
 }
 
+// The collection of the items.
 pub(crate) fn made(alloc: Global, kind: Kind, items: Vec<Value>) -> Result<Value, AllocError>
     ensures { IfOk result (λ v. v ≡ canon kind items.items) }
 {
@@ -46,6 +48,22 @@ pub(crate) fn made(alloc: Global, kind: Kind, items: Vec<Value>) -> Result<Value
         kind,
         Items::from_vec(kept(alloc, kind, items)?),
     ))
+}
+
+// Copies of the elements.
+pub(crate) fn copied(alloc: Global, items: &[Value]) -> Result<Vec<Value>, AllocError>
+    ensures { IfOk result (λ v. v.items ≡ items.now) }
+{
+    let mut out = Vec::new(alloc);
+    append_copies(alloc, items, 0, &mut out)?;
+    Ok(out)
+}
+
+// The collection of copies of the elements.
+pub(crate) fn made_of(alloc: Global, kind: Kind, items: &[Value]) -> Result<Value, AllocError>
+    ensures { IfOk result (λ v. v ≡ canon kind items.now) }
+{
+    made(alloc, kind, copied(alloc, items)?)
 }
 
 /// The collection of the items: invalid if an item is, or if it would nest more than 256 deep.

@@ -9,7 +9,8 @@ use Rattle.std.proofs.lemmas.List.Sums.{sum_by-cons}
 use Rattle.std.proofs.lemmas.List.Sorted.{sorted_far, ranks_by, sum_by-IsPermutation}
 use Rattle.std.proofs.lemmas.List.Elements.{recursion_from_All, All-from_recursion}
 use Rattle.std.proofs.lemmas.List.Kept.{AllPairs-cons}
-use Rattle.use_orders.specs.Canon.{IsExact, insert_in, bag_of, times}
+use Rattle.std.specs.FinMap.{IsAntisymmetric}
+use Rattle.use_orders.specs.Canon.{insert_in, bag_of, times}
 
 pub all_weaker : {X : Type 0} (P Q : X → Type 0) → ((x : X) → P x → Q x) → (xs : List X) → AllByRecursion P xs → AllByRecursion Q xs
 all_weaker P Q f [] h = tt
@@ -143,7 +144,7 @@ module _ {K : Type 0} (cmp : K → K → Ordering) where
     pub turned : (x y : K) → cmp x y ≡ Greater → cmp y x ≡ Less
     turned x y e = o.antisymm y x ∙ ap ordering_reverse e
 
-    pub same_bags : IsExact cmp → (xs ys : List K) → Ascends xs → Ascends ys → ((z : K) → times cmp xs z ≡ times cmp ys z) → xs ≡ ys
+    pub same_bags : IsAntisymmetric cmp → (xs ys : List K) → Ascends xs → Ascends ys → ((z : K) → times cmp xs z ≡ times cmp ys z) → xs ≡ ys
     unfolding Ascends
     same_bags exact [] [] up up' same = refl
     same_bags exact [] (y ∷ ys) up up' same =
@@ -163,12 +164,12 @@ module _ {K : Type 0} (cmp : K → K → Ordering) where
         (λ is. absurd (apart y ys x xs (turned x y is) up.0 (sym (same y))))
 
     -- what a sort leaves
-    pub bag_from_sort : IsExact cmp → (xs ys : List K) → IsPermutation xs ys → IsSorted cmp ys → ys ≡ bag_of cmp xs
+    pub bag_from_sort : IsAntisymmetric cmp → (xs ys : List K) → IsPermutation xs ys → IsSorted cmp ys → ys ≡ bag_of cmp xs
     bag_from_sort exact xs ys moved up =
         same_bags exact ys (bag_of cmp xs) (Ascends-from_sort ys up) (Ascends-bag_of xs)
         (λ z. sum_by-IsPermutation (λ y. cond (is_eq (cmp z y)) 1 0) xs ys moved ∙ sym (times-bag_of xs z))
 
-    pub bag_bag : IsExact cmp → (xs : List K) → bag_of cmp (bag_of cmp xs) ≡ bag_of cmp xs
+    pub bag_bag : IsAntisymmetric cmp → (xs : List K) → bag_of cmp (bag_of cmp xs) ≡ bag_of cmp xs
     bag_bag exact xs = same_bags exact (bag_of cmp (bag_of cmp xs)) (bag_of cmp xs) (Ascends-bag_of (bag_of cmp xs)) (Ascends-bag_of xs) (times-bag_of (bag_of cmp xs))
 
     up_pairs : (xs : List K) → Ascends xs → AllPairs (λ a b. is_lt (cmp b a) ≡ false) xs

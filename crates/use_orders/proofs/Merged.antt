@@ -8,7 +8,8 @@ use Rattle.std.proofs.lemmas.Cmp.{alike_right}
 use Rattle.std.proofs.lemmas.List.Folds.{list_any-append}
 use Rattle.std.proofs.lemmas.List.Kept.{IsStrictlySortedBy-filter}
 use Rattle.std.proofs.lemmas.Map.Views.{any-filter_same}
-use Rattle.use_orders.specs.Canon.{IsExact, set_of, has}
+use Rattle.std.specs.FinMap.{IsAntisymmetric}
+use Rattle.use_orders.specs.Canon.{set_of, has}
 use Rattle.use_orders.proofs.Bags.{Ascends, sorted_up, all_weaker}
 use Rattle.use_orders.proofs.Sets.{match_all, swap_or, over, equal, has-set_of, rises-set_of, same_sets}
 
@@ -29,7 +30,7 @@ module _ {K : Type 0} {cmp : K → K → Ordering} (o : IsTotalOrder cmp) where
   pub rises : (xs : List K) → set_of cmp xs ≡ xs → IsStrictlySortedBy cmp xs
   rises xs is = subst (IsStrictlySortedBy cmp) is (rises-set_of o xs)
 
-  pub is_set : IsExact cmp → (xs ys : List K) → IsStrictlySortedBy cmp xs → ((z : K) → has cmp xs z ≡ has cmp ys z) → xs ≡ set_of cmp ys
+  pub is_set : IsAntisymmetric cmp → (xs ys : List K) → IsStrictlySortedBy cmp xs → ((z : K) → has cmp xs z ≡ has cmp ys z) → xs ≡ set_of cmp ys
   is_set exact xs ys up same = same_sets o exact xs (set_of cmp ys) up (rises-set_of o ys) (λ z. same z ∙ sym (has-set_of o ys z))
 
   -- two things that tie answer alike
@@ -40,7 +41,7 @@ module _ {K : Type 0} {cmp : K → K → Ordering} (o : IsTotalOrder cmp) where
   pub has-filter : (p : K → Bool) → ((x y : K) → cmp x y ≡ Equal → p x ≡ p y) → (xs : List K) (z : K) → has cmp (filter p xs) z ≡ (p z && has cmp xs z)
   has-filter p same xs z = any-filter_same (λ y. is_eq (cmp z y)) p (p z) (λ k e. sym (same z k (equal (cmp z k) e))) xs
 
-  pub set_filter : IsExact cmp → (p : K → Bool) (xs : List K) → set_of cmp xs ≡ xs → filter p xs ≡ set_of cmp (filter p xs)
+  pub set_filter : IsAntisymmetric cmp → (p : K → Bool) (xs : List K) → set_of cmp xs ≡ xs → filter p xs ≡ set_of cmp (filter p xs)
   set_filter exact p xs is = is_set exact (filter p xs) (filter p xs) (IsStrictlySortedBy-filter cmp p xs (rises xs is)) (λ z. refl)
 
   all_step : (P : K → Type 0) (x : K) (xs : List K) (on : List K → List K) → P x → AllByRecursion P xs → ((zs : List K) → AllByRecursion P zs → AllByRecursion P (on zs)) → (ys : List K) → AllByRecursion P ys → AllByRecursion P (merge_step cmp true x xs on ys)
@@ -82,7 +83,7 @@ module _ {K : Type 0} {cmp : K → K → Ordering} (o : IsTotalOrder cmp) where
   has_union [] ys z = refl
   has_union (x ∷ xs) ys z = union_step x xs z (λ zs. has_union xs zs z) ys
 
-  pub set_union : IsExact cmp → (xs ys : List K) → set_of cmp xs ≡ xs → set_of cmp ys ≡ ys → sorted_merge cmp true xs ys ≡ set_of cmp (xs ++ ys)
+  pub set_union : IsAntisymmetric cmp → (xs ys : List K) → set_of cmp xs ≡ xs → set_of cmp ys ≡ ys → sorted_merge cmp true xs ys ≡ set_of cmp (xs ++ ys)
   set_union exact xs ys a b = is_set exact (sorted_merge cmp true xs ys) (xs ++ ys) (rises_merged xs ys (rises xs a) (rises ys b)) (λ z. has_union xs ys z ∙ sym (list_any-append (λ y. is_eq (cmp z y)) xs ys))
 
   up_from_rise : (xs : List K) → IsStrictlySortedBy cmp xs → Ascends cmp xs
@@ -93,8 +94,8 @@ module _ {K : Type 0} {cmp : K → K → Ordering} (o : IsTotalOrder cmp) where
   pub sorted_set : (xs : List K) → set_of cmp xs ≡ xs → IsSorted cmp xs
   sorted_set xs is = sorted_up cmp o xs (up_from_rise xs (rises xs is))
 
-  pub set_set : IsExact cmp → (xs : List K) → set_of cmp (set_of cmp xs) ≡ set_of cmp xs
+  pub set_set : IsAntisymmetric cmp → (xs : List K) → set_of cmp (set_of cmp xs) ≡ set_of cmp xs
   set_set exact xs = sym (is_set exact (set_of cmp xs) (set_of cmp xs) (rises-set_of o xs) (λ z. refl))
 
-  pub set_made : IsExact cmp → (xs l : List K) → l ≡ set_of cmp xs → set_of cmp l ≡ l
+  pub set_made : IsAntisymmetric cmp → (xs l : List K) → l ≡ set_of cmp xs → set_of cmp l ≡ l
   set_made exact xs l is = ap (set_of cmp) is ∙ set_set exact xs ∙ sym is

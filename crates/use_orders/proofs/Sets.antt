@@ -8,7 +8,8 @@ use Rattle.std.proofs.lemmas.Bool.{cond_both}
 use Rattle.std.proofs.lemmas.Cmp.{tied_itself, alike_right}
 use Rattle.std.proofs.lemmas.List.Sorted.{list_any-IsPermutation}
 use Rattle.std.proofs.lemmas.List.Kept.{IsStrictlySortedBy-dedup}
-use Rattle.use_orders.specs.Canon.{IsExact, insert_new, set_of, has}
+use Rattle.std.specs.FinMap.{IsAntisymmetric}
+use Rattle.use_orders.specs.Canon.{insert_new, set_of, has}
 use Rattle.use_orders.proofs.Bags.{by_rank, all_weaker}
 
 pub match_all : {X : Type 0} (P : X → Type 0) (r : Ordering) (a b c : X) → (r ≡ Less → P a) → (r ≡ Equal → P b) → (r ≡ Greater → P c) → P (match_ordering r a b c)
@@ -94,7 +95,7 @@ module _ {K : Type 0} {cmp : K → K → Ordering} (o : IsTotalOrder cmp) where
       (λ t. has_below z xs (all_weaker (λ w. cmp x w ≡ Less) (λ w. cmp z w ≡ Less) (λ w l. o.congr z x w (equal (cmp z x) t) ∙ l) xs up))
       (λ t. has_below z ys (all_weaker (λ w. cmp y w ≡ Less) (λ w. cmp z w ≡ Less) (λ w l. o.congr z y w (equal (cmp z y) t) ∙ l) ys up'))
 
-  pub same_sets : IsExact cmp → (xs ys : List K) → IsStrictlySortedBy cmp xs → IsStrictlySortedBy cmp ys → ((z : K) → has cmp xs z ≡ has cmp ys z) → xs ≡ ys
+  pub same_sets : IsAntisymmetric cmp → (xs ys : List K) → IsStrictlySortedBy cmp xs → IsStrictlySortedBy cmp ys → ((z : K) → has cmp xs z ≡ has cmp ys z) → xs ≡ ys
   unfolding IsStrictlySortedBy
   same_sets exact [] [] up up' same = refl
   same_sets exact [] (y ∷ ys) up up' same = absurd (true≢false (sym (has_self y ys) ∙ sym (same y)))
@@ -118,7 +119,7 @@ module _ {K : Type 0} {cmp : K → K → Ordering} (o : IsTotalOrder cmp) where
     has-dedup (x ∷ xs) z = has-dedup_from x xs z
 
     -- what a sort and then `dedup` leave
-    pub set_from_sort : IsExact cmp → (xs ys zs : List K) → IsPermutation xs ys → IsSorted cmp ys → zs ≡ dedup E ys → zs ≡ set_of cmp xs
+    pub set_from_sort : IsAntisymmetric cmp → (xs ys zs : List K) → IsPermutation xs ys → IsSorted cmp ys → zs ≡ dedup E ys → zs ≡ set_of cmp xs
     set_from_sort exact xs ys zs moved up is =
         is ∙ same_sets exact (dedup E ys) (set_of cmp xs) (IsStrictlySortedBy-dedup o ties ys up) (rises-set_of xs)
         (λ z. has-dedup ys z ∙ sym (list_any-IsPermutation (λ y. is_eq (cmp z y)) xs ys moved) ∙ sym (has-set_of xs z))

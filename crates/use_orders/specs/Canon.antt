@@ -1,14 +1,8 @@
 -- Lists in order, with and without repeats, as insertion of each element makes them.
-use Rattle.std.specs.Prelude.{◌≡◌, ℕ, Bool, true, false, cond, not, List, [], ◌∷◌, ◌++◌, ◌+◌, ◌<◌, ◌≤◌, drop, take, filter, fold, length, count_by}
-use Rattle.std.specs.Set.{sorted_merge}
-use Rattle.std.specs.List.{list_any}
+use Rattle.std.specs.Prelude.{◌≡◌, ℕ, Bool, true, false, cond, not, List, [], ◌∷◌, ◌++◌, ◌+◌, ◌<◌, ◌≤◌, drop, take, filter, map, fold, length, count_by}
+use Rattle.std.specs.List.{list_any, zip}
 use Rattle.std.specs.declared.cmp.Ordering.{Ordering}
-use Rattle.std.specs.declared.cmp.Ordering.TheVariants.{Equal}
 use Rattle.std.specs.Ordering.{is_lt, is_eq, match_ordering}
-
--- an order in which only a thing itself ties with it
-abbrev pub IsExact : {K : Type 0} → (K → K → Ordering) → Type 0
-IsExact {K} cmp = (x y : K) → cmp x y ≡ Equal → x ≡ y
 
 module _ {K : Type 0} (cmp : K → K → Ordering) where
   -- x put at its place, before what ties with it
@@ -69,12 +63,16 @@ module _ {K : Type 0} (cmp : K → K → Ordering) where
   common_of [] ys = []
   common_of (x ∷ xs) ys = cond (has ys x) (x ∷ common_of xs (without_one ys x)) (common_of xs ys)
 
-  -- one step of a merge: it took from a or b, and what is out and the merge of the rest stay the same list
-  pub record Progress (a b : List K) (i j : ℕ) (out : List K) (i' j' : ℕ) (out' : List K) : Type 0 where
-    pub same : out' ++ sorted_merge cmp true (drop i' a) (drop j' b) ≡ out ++ sorted_merge cmp true (drop i a) (drop j b)
-    pub further : i + j < i' + j'
-    pub in_a : i' ≤ length a
-    pub in_b : j' ≤ length b
+-- the items in the order of the keys that stand beside them; items whose keys tie stay in their order
+abbrev pub sorted_by_keys : {K X : Type 0} → (K → K → Ordering) → List X → List K → List X
+sorted_by_keys cmp items keys = map (λ pair. pair.1) (bag_of (λ a b. cmp a.0 b.0) (zip keys items))
+
+-- one step of what walks two lists together: it took from a or b, and what is out and what comes of the rest stay the same list
+pub record Progress {K : Type 0} (walk : List K → List K → List K) (a b : List K) (i j : ℕ) (out : List K) (i' j' : ℕ) (out' : List K) : Type 0 where
+  pub same : out' ++ walk (drop i' a) (drop j' b) ≡ out ++ walk (drop i a) (drop j b)
+  pub further : i + j < i' + j'
+  pub in_a : i' ≤ length a
+  pub in_b : j' ≤ length b
 
 -- what a test answers, or the contrary
 abbrev pub answers : Bool → Bool → Bool

@@ -1,5 +1,6 @@
 ghost use Rattle.std.specs.Prelude.{◌≡◌, IfOk};
-ghost use Rattle.use_orders.specs.Canon.{IsExact, bag_of, set_of};
+ghost use Rattle.std.specs.FinMap.{IsAntisymmetric};
+ghost use Rattle.use_orders.specs.Canon.{bag_of, set_of};
 
 use std::alloc::AllocError;
 
@@ -14,7 +15,7 @@ pub fn bag<T: Ord + Drop>(items: Vec<T>) -> Result<Vec<T>, AllocError>
 
 /// The elements in order, without repeats.
 pub fn set<T: Ord + Drop>(items: Vec<T>) -> Result<Vec<T>, AllocError>
-    requires exact { IsExact T.cmp }
+    requires exact { IsAntisymmetric T.cmp }
     ensures { IfOk result (λ v. v.items ≡ set_of T.cmp items.items) }
 {
     let mut sorted = items;

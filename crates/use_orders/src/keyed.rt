@@ -1,16 +1,17 @@
-ghost use Rattle.std.specs.Prelude.{◌≡◌, IfOk, map};
+ghost use Rattle.std.specs.Prelude.{◌≡◌, IfOk, length, map};
+ghost use Rattle.std.specs.List.{zip};
 ghost use Rattle.std.specs.Cmp.{on_equiv, on_total, on_po, on_per};
-ghost use Rattle.use_orders.specs.Canon.{bag_of};
+ghost use Rattle.use_orders.specs.Canon.{bag_of, sorted_by_keys};
 
 use crate::bag;
 use std::alloc::{AllocError, Global};
 use std::cmp::Ordering;
 
-/// A thing that goes by its key.
+// A thing that goes by its key.
 #[derive(Drop)]
-pub struct Keyed<K, T> {
-    pub key: K,
-    pub item: T,
+struct Keyed<K, T> {
+    key: K,
+    item: T,
 }
 
 impl<K: PartialEq, T> PartialEq for Keyed<K, T> {
@@ -51,8 +52,8 @@ impl<K: Ord, T> Ord for Keyed<K, T> {
     }
 }
 
-/// The items by their keys; those with one key stay as they stood.
-pub fn by_keys<K: Ord + Drop, T: Drop>(
+// The items by their keys; those with one key stay as they stood.
+fn by_keys<K: Ord + Drop, T: Drop>(
     alloc: Global,
     pairs: Vec<Keyed<K, T>>,
 ) -> Result<Vec<T>, AllocError>
@@ -65,4 +66,31 @@ pub fn by_keys<K: Ord + Drop, T: Drop>(
         out.push(item)?;
     }
     Ok(out)
+}
+
+// Each item beside its key.
+fn beside<K: Drop, T: Drop>(
+    alloc: Global,
+    items: Vec<T>,
+    keys: Vec<K>,
+) -> Result<Vec<Keyed<K, T>>, AllocError>
+    ensures { IfOk result (λ v. map (λ p. (p.key, p.item)) v.items ≡ zip keys.items items.items) }
+{
+    let mut pairs = Vec::new(alloc);
+    'pair: for (key, item) in keys.into_iter().zip(items) {
+        pairs.push(Keyed { key, item })?;
+    }
+    Ok(pairs)
+}
+
+/// The items in the order of their keys, which stand at the same places. The sort is stable.
+pub fn sort_by_keys<K: Ord + Drop, T: Drop>(
+    alloc: Global,
+    items: Vec<T>,
+    keys: Vec<K>,
+) -> Result<Vec<T>, AllocError>
+    requires { length keys.items ≡ length items.items }
+    ensures { IfOk result (λ v. v.items ≡ sorted_by_keys K.cmp items.items keys.items) }
+{
+    by_keys(alloc, beside(alloc, items, keys)?)
 }
