@@ -2,21 +2,19 @@
 #![tactic(auto)]
 
 mod adding;
-mod apply;
 mod depth;
 mod flatten;
 mod made;
 mod membership;
 mod op;
+mod operations;
 mod positions;
 mod set_algebra;
 mod sorting;
 mod sums;
 
-pub use apply::apply;
+pub use operations::apply;
 pub use made::make;
 pub use op::CollOp;
 pub use sorting::sort_by_keys;
 
-#[cfg(test)]
-mod tests;

@@ -1,17 +1,25 @@
-ghost use Rattle.std.specs.Prelude.{◌≡◌};
+ghost use Rattle.std.specs.Prelude.{◌≡◌, fold};
+ghost use Rattle.ocl_values.specs.Integers.{int_op_value};
 ghost use Rattle.ocl_collections.specs.Sums.{integer, joined_by, sum};
 
 use ocl_values::{IntOp, Value, int_op};
+
+// The values joined to a first one, from left to right.
+fn folded(op: IntOp, start: Value, items: &[Value]) -> Value
+    ensures { result ≡ fold (int_op_value op) start items.now }
+{
+    let mut total = start;
+    'join: for v in items {
+        total = int_op(op, &total, v);
+    }
+    total
+}
 
 // The sum of integers.
 pub(crate) fn sum(items: &[Value]) -> Value
     ensures { result ≡ sum items.now }
 {
-    let mut total = Value::Int(0);
-    'add: for v in items {
-        total = int_op(IntOp::Add, &total, v);
-    }
-    total
+    folded(IntOp::Add, Value::Int(0), items)
 }
 
 fn integer(v: &Value) -> Value
@@ -29,12 +37,6 @@ pub(crate) fn joined_by(op: IntOp, items: &[Value]) -> Value
 {
     match items {
         [] => Value::Invalid,
-        [first, rest @ ..] => {
-            let mut best = integer(first);
-            'join: for v in rest {
-                best = int_op(op, &best, v);
-            }
-            best
-        }
+        [first, rest @ ..] => folded(op, integer(first), rest),
     }
 }
