@@ -83,7 +83,7 @@ well_canon kind vs all =
     let split = neither (some_invalid vs) (nat_le 256 (most_levels vs)) e in
     parts_well kind vs (canonical kind vs) (parts vs all split.0 (low_from (most_levels vs) split.1)) refl)
 
-parts_in : (vs : List Value) → AllByRecursion IsTidy vs → some_invalid vs ≡ false → most_levels vs ≤ 255 → AllByRecursion IsPart vs
+pub parts_in : (vs : List Value) → AllByRecursion IsTidy vs → some_invalid vs ≡ false → most_levels vs ≤ 255 → AllByRecursion IsPart vs
 parts_in [] all none low = tt
 parts_in (v ∷ vs) all none low =
     let split = neither (is_invalid v) (some_invalid vs) none in

@@ -1,5 +1,6 @@
 ghost use Rattle.std.specs.Prelude.{◌≡◌};
-ghost use Rattle.ocl_values.specs.Shape.{canonical};
+ghost use Rattle.ocl_values.specs.Shape.{IsWellMade};
+ghost use Rattle.ocl_values.specs.declared.value.Value.TheVariants.{Coll};
 ghost use Rattle.ocl_collections.specs.Membership.{count, excludes_all, includes, includes_all};
 
 use ocl_values::{Kind, Value};
@@ -7,7 +8,7 @@ use use_orders::{contains, contains_anywhere};
 
 // Whether a value is among the elements of a collection of the kind.
 pub(crate) fn includes(kind: Kind, items: &[Value], x: &Value) -> bool
-    requires kept { canonical kind items.now ≡ items.now }
+    requires { IsWellMade (Coll kind items.now) }
     ensures { result ≡ includes items.now x.now }
 {
     match kind {
@@ -19,7 +20,7 @@ pub(crate) fn includes(kind: Kind, items: &[Value], x: &Value) -> bool
 
 // How often a value is among the elements of a collection of the kind.
 pub(crate) fn count(kind: Kind, items: &[Value], x: &Value) -> usize
-    requires kept { canonical kind items.now ≡ items.now }
+    requires { IsWellMade (Coll kind items.now) }
     ensures { result ≡ count items.now x.now }
 {
     match kind {
@@ -31,7 +32,7 @@ pub(crate) fn count(kind: Kind, items: &[Value], x: &Value) -> usize
 
 // Whether all of some values are among the elements.
 pub(crate) fn includes_all(kind: Kind, items: &[Value], others: &[Value]) -> bool
-    requires kept { canonical kind items.now ≡ items.now }
+    requires { IsWellMade (Coll kind items.now) }
     ensures { result ≡ includes_all items.now others.now }
 {
     'seek: for y in others {
@@ -44,7 +45,7 @@ pub(crate) fn includes_all(kind: Kind, items: &[Value], others: &[Value]) -> boo
 
 // Whether none of some values is among the elements.
 pub(crate) fn excludes_all(kind: Kind, items: &[Value], others: &[Value]) -> bool
-    requires kept { canonical kind items.now ≡ items.now }
+    requires { IsWellMade (Coll kind items.now) }
     ensures { result ≡ excludes_all items.now others.now }
 {
     'seek: for y in others {

@@ -1,6 +1,9 @@
-ghost use Rattle.std.specs.Prelude.{◌≡◌, IfOk};
-ghost use Rattle.ocl_values.specs.Shape.{canon, canonical};
-ghost use Rattle.ocl_values.specs.declared.value.Kind.TheVariants.{Bag, Set};
+ghost use Rattle.std.specs.Prelude.{◌≡◌, IfOk, IsSorted};
+ghost use Rattle.ocl_values.specs.Shape.{canon, IsWellMade};
+ghost use Rattle.ocl_values.specs.Order.{value_cmp};
+ghost use Rattle.ocl_values.specs.declared.value.Kind.TheVariants.{Set};
+ghost use Rattle.ocl_values.specs.declared.value.Value.TheVariants.{Coll};
+ghost use Rattle.use_orders.specs.Canon.{within};
 ghost use Rattle.ocl_collections.specs.SetAlgebra.{difference, intersection, symmetric_difference, union, union_kind};
 
 use crate::made::{copied, made};
@@ -40,6 +43,14 @@ pub(crate) fn union(
     }
 }
 
+// The Set of the elements that are in the others, which are in order.
+fn shared(alloc: Global, items: &[Value], others: &[Value]) -> Result<Value, AllocError>
+    requires { IsSorted value_cmp others.now }
+    ensures { IfOk result (λ v. v ≡ canon Set (within value_cmp items.now others.now)) }
+{
+    made(alloc, Kind::Set, use_orders::within(alloc, items, others)?)
+}
+
 pub(crate) fn intersection(
     alloc: Global,
     kind: Kind,
@@ -47,15 +58,15 @@ pub(crate) fn intersection(
     other: Kind,
     others: &[Value],
 ) -> Result<Value, AllocError>
-    requires first { canonical kind items.now ≡ items.now }
-    requires second { canonical other others.now ≡ others.now }
+    requires first { IsWellMade (Coll kind items.now) }
+    requires second { IsWellMade (Coll other others.now) }
     ensures { IfOk result (λ v. v ≡ intersection kind items.now other others.now) }
 {
     match (kind, other) {
         (Kind::Bag, Kind::Bag) => made(alloc, Kind::Bag, use_orders::common(alloc, items, others)?),
-        (Kind::Set | Kind::Bag, Kind::Set | Kind::Bag) => {
-            made(alloc, Kind::Set, use_orders::within(alloc, items, others)?)
-        }
+        (Kind::Set, Kind::Set) => shared(alloc, items, others),
+        (Kind::Set, Kind::Bag) => shared(alloc, items, others),
+        (Kind::Bag, Kind::Set) => shared(alloc, items, others),
         _ => Ok(Value::Invalid),
     }
 }
@@ -67,7 +78,7 @@ pub(crate) fn difference(
     other: Kind,
     others: &[Value],
 ) -> Result<Value, AllocError>
-    requires second { canonical other others.now ≡ others.now }
+    requires second { IsWellMade (Coll other others.now) }
     ensures { IfOk result (λ v. v ≡ difference kind items.now other others.now) }
 {
     match (kind, other) {
@@ -85,8 +96,8 @@ pub(crate) fn symmetric_difference(
     other: Kind,
     others: &[Value],
 ) -> Result<Value, AllocError>
-    requires first { canonical kind items.now ≡ items.now }
-    requires second { canonical other others.now ≡ others.now }
+    requires first { IsWellMade (Coll kind items.now) }
+    requires second { IsWellMade (Coll other others.now) }
     ensures { IfOk result (λ v. v ≡ symmetric_difference kind items.now other others.now) }
 {
     match (kind, other) {

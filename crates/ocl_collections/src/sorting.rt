@@ -12,8 +12,10 @@ pub fn sort_by_keys(
     items: Vec<Value>,
     keys: Vec<Value>,
 ) -> Result<Vec<Value>, AllocError>
-    requires { length items.items ≡ length keys.items }
+    requires beside { length items.items ≡ length keys.items }
+    requires well { All IsWellMade items.items }
     ensures value { IfOk result (λ v. v.items ≡ by_keys items.items keys.items) }
+    ensures well_made { IfOk result (λ v. All IsWellMade v.items) }
 {
     use_orders::sort_by_keys(alloc, items, keys)
 }
