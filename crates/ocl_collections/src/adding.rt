@@ -27,5 +27,9 @@ pub(crate) fn excluding(
 ) -> Result<Value, AllocError>
     ensures { IfOk result (λ v. v ≡ excluding kind items.now x.now) }
 {
-    made(alloc, kind, use_orders::without(alloc, items, slice::from_ref(x))?)
+    made(
+        alloc,
+        kind,
+        use_orders::without(alloc, items, slice::from_ref(x))?,
+    )
 }

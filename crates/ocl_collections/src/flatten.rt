@@ -20,11 +20,7 @@ fn append_leaves(alloc: Global, v: &Value, out: &mut Vec<Value>) -> Result<(), A
 }
 
 #[cycle(leaves)]
-fn append_all_leaves(
-    alloc: Global,
-    all: &[Value],
-    out: &mut Vec<Value>,
-) -> Result<(), AllocError>
+fn append_all_leaves(alloc: Global, all: &[Value], out: &mut Vec<Value>) -> Result<(), AllocError>
     ensures { OnOk result (out.new.items ≡ out.old.items ++ all_leaves all.now) }
 {
     'each: for v in all {

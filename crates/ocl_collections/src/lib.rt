@@ -13,8 +13,10 @@ mod set_algebra;
 mod sorting;
 mod sums;
 
-pub use operations::apply;
 pub use made::make;
 pub use op::CollOp;
+pub use operations::apply;
 pub use sorting::sort_by_keys;
 
+#[cfg(test)]
+mod tests;

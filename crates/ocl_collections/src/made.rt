@@ -44,10 +44,7 @@ pub(crate) fn made(alloc: Global, kind: Kind, items: Vec<Value>) -> Result<Value
     if any_invalid(items.as_slice()) || most(items.as_slice()) >= 256 {
         return Ok(Value::Invalid);
     }
-    Ok(Value::Coll(
-        kind,
-        Items::from_vec(kept(alloc, kind, items)?),
-    ))
+    Ok(Value::Coll(kind, Items::from_vec(kept(alloc, kind, items)?)))
 }
 
 // Copies of the elements.

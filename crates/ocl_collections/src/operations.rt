@@ -5,6 +5,7 @@ ghost use Rattle.ocl_collections.specs.Arguments.{with_collection, with_integer}
 ghost use Rattle.ocl_collections.specs.Positions.{at};
 ghost use Rattle.ocl_collections.specs.Operations.{coll_op_value, of_collection, of_none, of_one, of_pair, of_two};
 
+use crate::CollOp;
 use crate::adding::{excluding, including};
 use crate::flatten::flattened;
 use crate::made::{any_invalid, made_of};
@@ -14,7 +15,6 @@ use crate::positions::{
 };
 use crate::set_algebra::{difference, intersection, symmetric_difference, union};
 use crate::sums::{joined_by, sum};
-use crate::CollOp;
 use ocl_values::{IntOp, Kind, Value};
 use std::alloc::{AllocError, Global};
 
@@ -165,12 +165,7 @@ fn of_collection(
 /// An operation of a collection and its arguments. A source that is no collection, an argument that
 /// is invalid, one that is null where an integer or a collection is wanted, and arguments of another
 /// number or kind make the result invalid.
-pub fn apply(
-    alloc: Global,
-    op: CollOp,
-    source: &Value,
-    args: &[Value],
-) -> Result<Value, AllocError>
+pub fn apply(alloc: Global, op: CollOp, source: &Value, args: &[Value]) -> Result<Value, AllocError>
     requires source { IsWellMade source.now }
     requires arguments { All IsWellMade args.now }
     ensures value { IfOk result (λ v. v ≡ coll_op_value op source.now args.now) }

@@ -47,13 +47,7 @@ fn inserted_once(
 }
 
 // The collection with x behind the first n.
-fn put(
-    alloc: Global,
-    kind: Kind,
-    n: usize,
-    items: &[Value],
-    x: &Value,
-) -> Result<Value, AllocError>
+fn put(alloc: Global, kind: Kind, n: usize, items: &[Value], x: &Value) -> Result<Value, AllocError>
     requires { n ≤ length items.now }
     ensures { IfOk result (λ v. v ≡ canon kind (put kind n items.now x.now)) }
 {
@@ -120,12 +114,7 @@ fn behind(alloc: Global, items: &[Value], n: usize) -> Result<Value, AllocError>
     }
 }
 
-pub(crate) fn at(
-    alloc: Global,
-    kind: Kind,
-    items: &[Value],
-    i: i128,
-) -> Result<Value, AllocError>
+pub(crate) fn at(alloc: Global, kind: Kind, items: &[Value], i: i128) -> Result<Value, AllocError>
     ensures { IfOk result (λ v. v ≡ at kind items.now i) }
 {
     if has_places(kind) && 1 <= i && i <= items.len() as i128 {
@@ -178,13 +167,7 @@ pub(crate) fn index_of(kind: Kind, items: &[Value], x: &Value) -> Value
 }
 
 // The elements from place l to place u.
-fn part(
-    alloc: Global,
-    kind: Kind,
-    items: &[Value],
-    l: i128,
-    u: i128,
-) -> Result<Value, AllocError>
+fn part(alloc: Global, kind: Kind, items: &[Value], l: i128, u: i128) -> Result<Value, AllocError>
     ensures { IfOk result (λ v. v ≡ part kind items.now l u) }
 {
     if 1 <= l && l <= u && u <= items.len() as i128 {

@@ -98,7 +98,11 @@ fn kept<T: Ord + TryCopy + Drop>(
 }
 
 /// The elements of the first list that are in the second, which is in order.
-pub fn within<T: Ord + TryCopy + Drop>(alloc: Global, a: &[T], b: &[T]) -> Result<Vec<T>, AllocError>
+pub fn within<T: Ord + TryCopy + Drop>(
+    alloc: Global,
+    a: &[T],
+    b: &[T],
+) -> Result<Vec<T>, AllocError>
     requires sorted { IsSorted T.cmp b.now }
     ensures { IfOk result (λ v. v.items ≡ within T.cmp a.now b.now) }
 {
@@ -106,7 +110,11 @@ pub fn within<T: Ord + TryCopy + Drop>(alloc: Global, a: &[T], b: &[T]) -> Resul
 }
 
 /// The elements of the first list that are not in the second, which is in order.
-pub fn without<T: Ord + TryCopy + Drop>(alloc: Global, a: &[T], b: &[T]) -> Result<Vec<T>, AllocError>
+pub fn without<T: Ord + TryCopy + Drop>(
+    alloc: Global,
+    a: &[T],
+    b: &[T],
+) -> Result<Vec<T>, AllocError>
     requires sorted { IsSorted T.cmp b.now }
     ensures { IfOk result (λ v. v.items ≡ without T.cmp a.now b.now) }
 {
@@ -139,7 +147,11 @@ fn common_one<T: Ord + TryCopy + Drop>(
 }
 
 /// What two lists in order share, each as often as the list that has fewer of it.
-pub fn common<T: Ord + TryCopy + Drop>(alloc: Global, a: &[T], b: &[T]) -> Result<Vec<T>, AllocError>
+pub fn common<T: Ord + TryCopy + Drop>(
+    alloc: Global,
+    a: &[T],
+    b: &[T],
+) -> Result<Vec<T>, AllocError>
     requires first { IsSorted T.cmp a.now }
     requires second { IsSorted T.cmp b.now }
     ensures { IfOk result (λ v. v.items ≡ common_of T.cmp a.now b.now) }

@@ -6,7 +6,7 @@ use Rattle.use_orders.proofs.Beside.{zip_next, zip_ends, shorter}
 use Rattle.use_orders.proofs.keyed.beside.Goals as goal
 
 pub pair-init : goal.pair-init
-pair-init g c = 
+pair-init g c =
     let z = c.zip-key-items.ensures in
     let i = c.into_iter.ensures in
     let same = c.into_iter-key-iterator.ensures.into_iter_gives in
