@@ -2,7 +2,7 @@
 use Rattle.std.specs.Prelude.{◌≡◌, ℕ, ◌+◌, ◌≤◌, nat_le, max, Bool, false, ◌||◌, cond, List, [], ◌∷◌, length}
 use Rattle.ocl_values.specs.Order.{value_cmp}
 use Rattle.ocl_values.specs.Logic.{is_invalid}
-use Rattle.ocl_values.specs.Canon.{bag_of, set_of, firsts_of}
+use Rattle.use_orders.specs.Canon.{bag_of, set_of, firsts_of}
 use Rattle.ocl_values.specs.declared.value.Kind.{Kind}
 use Rattle.ocl_values.specs.declared.value.Kind.TheVariants.{Set, OrderedSet, Bag, Sequence}
 use Rattle.ocl_values.specs.declared.value.Value.{Value, Row_of-Value, end_of-Value, more_of-Value, items-the_row-Value}

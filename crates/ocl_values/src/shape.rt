@@ -4,6 +4,7 @@ ghost use Rattle.ocl_values.specs.Shape.{size_of, sizes_of};
 use crate::{Text, Value};
 use std::alloc::{AllocError, Global};
 use use_lists::Items;
+use use_orders::TryCopy;
 
 /// The size of a value: 1, and for a String its bytes, for a collection the sizes of its elements.
 /// Sizes past 2^64 - 1 count as that.
@@ -57,4 +58,10 @@ fn copy_all(alloc: Global, all: &[Value]) -> Result<Items<Value>, AllocError>
         list.push(v.try_copy(alloc)?)?;
     }
     Ok(Items::from_vec(list))
+}
+
+impl TryCopy for Value {
+    fn try_copy(&self, alloc: Global) -> Result<Value, AllocError> {
+        self.try_copy(alloc)
+    }
 }

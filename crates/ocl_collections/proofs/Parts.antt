@@ -1,0 +1,113 @@
+-- What `make` makes is well made.
+use Rattle.std.proofs.Common.{◌≡◌, ℕ, ◌+◌, ◌<◌, ◌≤◌, ◌++◌, nat_le, max, ◌||◌, Bool, true, false, cond, All, List, [], ◌∷◌, ap, ap₂, refl, ◌∙◌, sym, subst, true≢false, arith}
+use Rattle.std.specs.List.{AllByRecursion}
+use Rattle.std.proofs.lemmas.Bool.{cond_both}
+use Rattle.std.proofs.lemmas.List.Elements.{recursion_from_All}
+use Rattle.use_orders.proofs.Bags.{bag_bag}
+use Rattle.use_orders.proofs.Merged.{set_set}
+use Rattle.use_orders.proofs.Kept.{all_bag, all_set, all_firsts, firsts_firsts}
+use Rattle.ocl_values.specs.Order.{value_cmp}
+use Rattle.ocl_values.specs.declared.value.Kind.{Kind}
+use Rattle.ocl_values.specs.declared.value.Kind.TheVariants.{Set, OrderedSet, Bag, Sequence}
+use Rattle.ocl_values.specs.declared.value.Value.{Value}
+use Rattle.ocl_values.specs.declared.value.Value.TheVariants.{Coll, Invalid}
+use Rattle.ocl_values.specs.Logic.{is_invalid}
+use Rattle.ocl_values.specs.Shape.{levels_of, most_levels, canonical, canon, some_invalid, IsTidy, IsWellMade}
+use Rattle.ocl_values.proofs.Exact.{value_exact, value_total}
+use Rattle.ocl_values.proofs.Rows.{levels_of-Coll, tidy_Coll, row_of_tidy}
+
+-- what a collection may hold
+abbrev pub IsPart : Value → Type 0
+IsPart v = IsTidy v × (is_invalid v ≡ false) × (levels_of v ≤ 255)
+
+pub neither : (a b : Bool) → (a || b) ≡ false → (a ≡ false) × (b ≡ false)
+neither true b e = absurd (true≢false e)
+neither false b e = (refl, e)
+
+parts : (vs : List Value) → AllByRecursion IsWellMade vs → some_invalid vs ≡ false → most_levels vs ≤ 255 → AllByRecursion IsPart vs
+parts [] all none low = tt
+parts (v ∷ vs) all none low =
+    let split = neither (is_invalid v) (some_invalid vs) none in
+    ((all.0.tidy, split.0, omega arith), parts vs all.1 split.1 (omega arith))
+
+all_kept : (kind : Kind) (P : Value → Type 0) (vs : List Value) → AllByRecursion P vs → AllByRecursion P (canonical kind vs)
+all_kept Set P vs all = all_set value_total P vs all
+all_kept OrderedSet P vs all = all_firsts value_cmp P vs all
+all_kept Bag P vs all = all_bag value_cmp P vs all
+all_kept Sequence P vs all = all
+
+kept_twice : (kind : Kind) (vs : List Value) → canonical kind (canonical kind vs) ≡ canonical kind vs
+kept_twice Set vs = set_set value_total value_exact vs
+kept_twice OrderedSet vs = firsts_firsts value_cmp vs
+kept_twice Bag vs = bag_bag value_cmp value_total value_exact vs
+kept_twice Sequence vs = refl
+
+pub none_invalid : (vs : List Value) → AllByRecursion IsPart vs → some_invalid vs ≡ false
+none_invalid [] all = refl
+none_invalid (v ∷ vs) all = ap (λ b. b || some_invalid vs) all.0.1 ∙ none_invalid vs all.1
+
+pub none_deep : (vs : List Value) → AllByRecursion IsPart vs → most_levels vs ≤ 255
+none_deep [] all = omega arith
+none_deep (v ∷ vs) all =
+    let one = all.0.2 in
+    let rest = none_deep vs all.1 in
+    omega (arith, one, rest)
+
+all_tidy : (vs : List Value) → AllByRecursion IsPart vs → AllByRecursion IsTidy vs
+all_tidy [] all = tt
+all_tidy (v ∷ vs) all = (all.0.0, all_tidy vs all.1)
+
+pub parts_well : (kind : Kind) (vs l : List Value) → AllByRecursion IsPart vs → l ≡ canonical kind vs → IsWellMade (Coll kind l)
+parts_well kind vs l all is =
+    let kept : AllByRecursion IsPart l = subst (AllByRecursion IsPart) (sym is) (all_kept kind IsPart vs all) in
+    let twice : canonical kind l ≡ l = ap (canonical kind) is ∙ kept_twice kind vs ∙ sym is in
+    let deep = none_deep l kept in
+    let levels = levels_of-Coll kind l in
+    record {
+      tidy = tidy_Coll kind l (record { kept = twice; none = none_invalid l kept; each = all_tidy l kept });
+      levels = omega (arith, deep, levels);
+    }
+
+pub well_Invalid : IsWellMade Invalid
+well_Invalid = record { tidy = tt; levels = omega arith }
+
+low_from : (n : ℕ) → nat_le 256 n ≡ false → n ≤ 255
+low_from n e = grind (arith, e)
+
+-- a collection of well-made values, as `canon` makes it
+pub well_canon : (kind : Kind) (vs : List Value) → AllByRecursion IsWellMade vs → IsWellMade (canon kind vs)
+well_canon kind vs all =
+    cond_both (some_invalid vs || nat_le 256 (most_levels vs)) Invalid (Coll kind (canonical kind vs)) IsWellMade
+    (λ _. well_Invalid)
+    (λ e.
+    let split = neither (some_invalid vs) (nat_le 256 (most_levels vs)) e in
+    parts_well kind vs (canonical kind vs) (parts vs all split.0 (low_from (most_levels vs) split.1)) refl)
+
+pub parts_in : (vs : List Value) → AllByRecursion IsTidy vs → some_invalid vs ≡ false → most_levels vs ≤ 255 → AllByRecursion IsPart vs
+parts_in [] all none low = tt
+parts_in (v ∷ vs) all none low =
+    let split = neither (is_invalid v) (some_invalid vs) none in
+    ((all.0, split.0, omega arith), parts_in vs all.1 split.1 (omega arith))
+
+pub parts_of : (kind : Kind) (all : List Value) → IsWellMade (Coll kind all) → AllByRecursion IsPart all
+parts_of kind all well =
+    let row = row_of_tidy kind all well.tidy in
+    let levels = levels_of-Coll kind all in
+    let most = well.levels in
+    parts_in all row.each row.none (omega (arith, levels, most))
+
+pub part_well : (v : Value) → IsPart v → IsWellMade v
+part_well v part =
+    let low = part.2 in
+    record { tidy = part.0; levels = omega (arith, low) }
+
+pub parts_are_well : (vs : List Value) → AllByRecursion IsPart vs → AllByRecursion IsWellMade vs
+parts_are_well [] all = tt
+parts_are_well (v ∷ vs) all = (part_well v all.0, parts_are_well vs all.1)
+
+-- where all are parts, `canon` makes a collection
+pub canon_is : (kind : Kind) (vs : List Value) → AllByRecursion IsPart vs → canon kind vs ≡ Coll kind (canonical kind vs)
+canon_is kind vs all =
+    let deep = none_deep vs all in
+    let low : nat_le 256 (most_levels vs) ≡ false = grind (arith, deep) in
+    ap₂ (λ a b. cond (a || b) Invalid (Coll kind (canonical kind vs))) (none_invalid vs all) low

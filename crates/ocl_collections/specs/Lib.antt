@@ -1,0 +1,9 @@
+pub mod Arguments
+pub mod Membership
+pub mod Adding
+pub mod SetAlgebra
+pub mod Positions
+pub mod Sums
+pub mod Flattening
+pub mod Sorting
+pub mod Operations
