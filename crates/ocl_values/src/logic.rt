@@ -60,7 +60,8 @@ fn negation(a: Truth) -> Truth
     }
 }
 
-/// `a and b`.
+/// `a and b` (OCL 2.3.1, 11.5.4): false where a side is, else invalid where a side is, else null
+/// where a side is.
 pub fn and(a: &Value, b: &Value) -> Value
     ensures value { result ≡ entry and_table a.now b.now }
     ensures well_made { IsWellMade result }
@@ -82,7 +83,7 @@ fn disjunction(a: Truth, b: Truth) -> Value
     }
 }
 
-/// `a or b`.
+/// `a or b`: true where a side is, else invalid where a side is, else null where a side is.
 pub fn or(a: &Value, b: &Value) -> Value
     ensures value { result ≡ entry or_table a.now b.now }
     ensures dual { in_row not_row (truth_of result)
@@ -106,7 +107,7 @@ fn exclusion(a: Truth, b: Truth) -> Value
     }
 }
 
-/// `a xor b`.
+/// `a xor b`: invalid where a side is, else null where a side is, else whether the sides differ.
 pub fn xor(a: &Value, b: &Value) -> Value
     ensures value { result ≡ entry xor_table a.now b.now }
     ensures well_made { IsWellMade result }
@@ -129,7 +130,7 @@ pub fn implies(a: &Value, b: &Value) -> Value
     implication(truth_of(a), truth_of(b))
 }
 
-/// `not a`.
+/// `not a`, which keeps null and invalid.
 pub fn not(a: &Value) -> Value
     ensures value { result ≡ in_row not_row (truth_of a.now) }
     ensures well_made { IsWellMade result }
