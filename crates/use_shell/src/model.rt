@@ -8,8 +8,8 @@ ghost use Rattle.use_syntax.specs.Reading.{read_model};
 ghost use Rattle.use_shell.specs.Models.{is_kind, is_name, is_empty_model, unbuilt, refusal_of_list, refusal_of_reading, model_refusal};
 
 use crate::stop::Stop;
-use std::alloc::Global;
 use grammar_core::{Grammar, GrammarFault};
+use std::alloc::Global;
 use use_io::{Shelf, ShelfFault};
 use use_syntax::{SyntaxFault, grammar, read_model};
 use use_text::{Code, Place, Refusal, Token, TokenKind};
