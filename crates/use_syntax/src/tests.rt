@@ -1,4 +1,4 @@
-ghost use Rattle.std.specs.Prelude.{◌≡◌, ◌≤◌, ◌<◌, IfOk, length, string_len};
+ghost use Rattle.std.specs.Prelude.{◌≡◌, ◌<◌, length};
 ghost use Rattle.use_syntax.specs.Language.{language};
 
 use super::*;
@@ -63,20 +63,49 @@ fn outcome_shown(alloc: Global, given: &Result<Parsed, SyntaxFault>) -> Result<S
     }
 }
 
-// What becomes of a command: its tree, or the code and the place of its refusal.
-fn command_shown(alloc: Global, g: &Grammar, text: &str) -> Result<String, AllocError>
-    requires table { g.now ≡ language }
-    requires text { length text.now ≤ 4194304 }
+// What becomes of a model or a command: its tree, or the code and the place of its refusal.
+fn shown(alloc: Global, g: &Grammar, is_model: bool, text: &str) -> Result<String, AllocError>
+    requires { g.now ≡ language }
 {
-    outcome_shown(alloc, &read_command(alloc, g, text.as_bytes(), 1))
+    if text.len() > 4_194_304 {
+        return String::from_str(alloc, "too long");
+    }
+    if is_model {
+        outcome_shown(alloc, &read_model(alloc, g, text.as_bytes()))
+    } else {
+        outcome_shown(alloc, &read_command(alloc, g, text.as_bytes(), 1))
+    }
 }
 
-// What becomes of a model.
-fn model_shown(alloc: Global, g: &Grammar, text: &str) -> Result<String, AllocError>
-    requires table { g.now ≡ language }
-    requires text { length text.now ≤ 4194304 }
-{
-    outcome_shown(alloc, &read_model(alloc, g, text.as_bytes()))
+// The first text that does not become what stands beside it.
+fn first_other(
+    alloc: Global,
+    is_model: bool,
+    rows: &[(&'static str, &'static str)],
+) -> Result<Option<&'static str>, Fail> {
+    let g = grammar(alloc)?;
+    'rows: for (text, want) in rows {
+        if shown(alloc, &g, is_model, text)?.as_str() != *want {
+            return Ok(Some(*text));
+        }
+    }
+    Ok(None)
+}
+
+// The first text that is refused.
+fn first_refused(
+    alloc: Global,
+    is_model: bool,
+    texts: &[&'static str],
+) -> Result<Option<&'static str>, Fail> {
+    let g = grammar(alloc)?;
+    'texts: for text in texts {
+        let outcome = shown(alloc, &g, is_model, text)?;
+        if outcome.as_str().starts_with("S") {
+            return Ok(Some(*text));
+        }
+    }
+    Ok(None)
 }
 
 // These and the models below take each of the 342 ways through the 185 productions with names: each
@@ -173,18 +202,53 @@ const MODELS: &[&str] = &[
 
 #[test]
 fn every_production_is_read(rt: HostRuntime) -> Result<(), Fail> {
-    let alloc = rt.alloc();
-    let g = grammar(alloc)?;
-    'commands: for text in COMMANDS {
-        assert!(rt; text.len() < 1000);
-        let given = read_command(alloc, &g, text.as_bytes(), 1);
-        assert!(rt; given.is_ok(), "at {text}");
-    }
-    'models: for text in MODELS {
-        assert!(rt; text.len() < 1000);
-        let given = read_model(alloc, &g, text.as_bytes());
-        assert!(rt; given.is_ok(), "at {text}");
-    }
+    assert_eq!(rt; first_refused(rt.alloc(), false, COMMANDS)?, None);
+    assert_eq!(rt; first_refused(rt.alloc(), true, MODELS)?, None);
+    Ok(())
+}
+
+const TREES: &[(&str, &str)] = &[
+    ("? 1 + 2", "[[? [1 + 2]] ]"),
+    ("? a < b < c", "[[? [a < b < c]] ]"),
+    ("? not a = b", "[[? [[not a] = b]] ]"),
+    (
+        "? a or b implies c and not d implies e",
+        "[[? [[a or b] implies [c and [not d]] implies e]] ]",
+    ),
+    ("? 1 - 2 * 3 - -4", "[[? [1 - [2 * 3] - [- 4]]] ]"),
+    (
+        "? x.f(1)->size()",
+        "[[? [x [. f [( 1 )]] [-> size [( )]]]] ]",
+    ),
+    (
+        "? p.name@pre.size()",
+        "[[? [p [. name @pre] [. size [( )]]]] ]",
+    ),
+    (
+        "? let x = 1, y : T = 2 in x + y",
+        "[[? [let [x = 1] , [y : T = 2] in [x + y]]] ]",
+    ),
+    (
+        "? if a then 1 else 2 endif",
+        "[[? [if a then 1 else 2 endif]] ]",
+    ),
+    ("? Set{1..2, 3}", "[[? [Set { [1 .. 2] , 3 }]] ]"),
+    (
+        "!create a, b : C; a.n := 1;",
+        "[[! [[create [a , b] : C] ; [[a [. n]] := 1] ;]] ]",
+    ),
+    (
+        "!for x in y do destroy x end",
+        "[[! [for x in y do [destroy x] end]] ]",
+    ),
+    ("check -v", "[[check - v] ]"),
+    ("!insert (a, b) into A", "[[! [insert ( a , b ) into A]] ]"),
+    ("openter p raise(5)", "[[openter p raise [( 5 )]] ]"),
+];
+
+#[test]
+fn trees_are_those_of_the_grammar(rt: HostRuntime) -> Result<(), Fail> {
+    assert_eq!(rt; first_other(rt.alloc(), false, TREES)?, None);
     Ok(())
 }
 
@@ -241,139 +305,110 @@ context Project
 
 #[test]
 fn a_model_is_read_whole(rt: HostRuntime) -> Result<(), Fail> {
-    let alloc = rt.alloc();
-    let g = grammar(alloc)?;
-    assert!(rt; EMPLOYEES.len() < 4000);
-    let given = read_model(alloc, &g, EMPLOYEES.as_bytes());
-    assert!(rt; given.is_ok());
+    assert_eq!(rt; first_refused(rt.alloc(), true, &[EMPLOYEES])?, None);
     Ok(())
 }
 
-#[test]
-fn trees_are_those_of_the_grammar(rt: HostRuntime) -> Result<(), Fail> {
-    let alloc = rt.alloc();
-    let g = grammar(alloc)?;
-    'rows: for (text, want) in [
-        ("? 1 + 2", "[[? [1 + 2]] ]"),
-        ("? a < b < c", "[[? [a < b < c]] ]"),
-        ("? not a = b", "[[? [[not a] = b]] ]"),
-        (
-            "? a or b implies c and not d implies e",
-            "[[? [[a or b] implies [c and [not d]] implies e]] ]",
-        ),
-        ("? 1 - 2 * 3 - -4", "[[? [1 - [2 * 3] - [- 4]]] ]"),
-        (
-            "? x.f(1)->size()",
-            "[[? [x [. f [( 1 )]] [-> size [( )]]]] ]",
-        ),
-        (
-            "? p.name@pre.size()",
-            "[[? [p [. name @pre] [. size [( )]]]] ]",
-        ),
-        (
-            "? let x = 1, y : T = 2 in x + y",
-            "[[? [let [x = 1] , [y : T = 2] in [x + y]]] ]",
-        ),
-        (
-            "? if a then 1 else 2 endif",
-            "[[? [if a then 1 else 2 endif]] ]",
-        ),
-        ("? Set{1..2, 3}", "[[? [Set { [1 .. 2] , 3 }]] ]"),
-        (
-            "!create a, b : C; a.n := 1;",
-            "[[! [[create [a , b] : C] ; [[a [. n]] := 1] ;]] ]",
-        ),
-        (
-            "!for x in y do destroy x end",
-            "[[! [for x in y do [destroy x] end]] ]",
-        ),
-        ("check -v", "[[check - v] ]"),
-        ("!insert (a, b) into A", "[[! [insert ( a , b ) into A]] ]"),
-        ("openter p raise(5)", "[[openter p raise [( 5 )]] ]"),
-    ] {
-        let shown = command_shown(alloc, &g, text)?;
-        assert_eq!(rt; shown.as_str(), want, "at {text}");
-    }
-    Ok(())
-}
+const REFUSED_COMMANDS: &[(&str, &str)] = &[
+    ("?", "S1 at 1:2"),
+    ("? 1 +", "S1 at 1:6"),
+    ("1", "S1 at 1:1"),
+    ("create a : C", "S1 at 1:1"),
+    ("? 1 2", "S1 at 1:5"),
+    ("!x :=", "S1 at 1:6"),
+    ("!if true then x := 1 endif", "S1 at 1:22"),
+    ("? if true then 1 else 2 end", "S1 at 1:25"),
+    ("? a < b <", "S1 at 1:10"),
+    ("? not", "S1 at 1:6"),
+    ("? x.", "S1 at 1:5"),
+    ("? Set{1,}", "S1 at 1:9"),
+    ("!insert (a, b) from A", "S1 at 1:16"),
+    ("view x", "S1 at 1:7"),
+    ("info", "S1 at 1:5"),
+    ("check v", "S1 at 1:7"),
+    ("? a]", "S1 at 1:4"),
+    ("?\n  (1\n  + ", "S1 at 3:4"),
+];
+
+const REFUSED_MODELS: &[(&str, &str)] = &[
+    ("", "S1 at 1:1"),
+    ("model", "S1 at 1:6"),
+    ("model M class A", "S1 at 1:16"),
+    ("model M class A attributes a end", "S1 at 1:30"),
+    ("model M end", "S1 at 1:9"),
+    ("model M class A operations f() = end", "S1 at 1:34"),
+    ("model M association A between B[] C[1] end", "S1 at 1:33"),
+    ("model M\nconstraints context A\n", "S1 at 2:22"),
+];
 
 #[test]
 fn a_token_that_no_branch_allows_is_refused(rt: HostRuntime) -> Result<(), Fail> {
-    let alloc = rt.alloc();
-    let g = grammar(alloc)?;
-    'commands: for (text, want) in [
-        ("?", "S1 at 1:2"),
-        ("? 1 +", "S1 at 1:6"),
-        ("1", "S1 at 1:1"),
-        ("create a : C", "S1 at 1:1"),
-        ("? 1 2", "S1 at 1:5"),
-        ("!x :=", "S1 at 1:6"),
-        ("!if true then x := 1 endif", "S1 at 1:22"),
-        ("? if true then 1 else 2 end", "S1 at 1:25"),
-        ("? a < b <", "S1 at 1:10"),
-        ("? not", "S1 at 1:6"),
-        ("? x.", "S1 at 1:5"),
-        ("? Set{1,}", "S1 at 1:9"),
-        ("!insert (a, b) from A", "S1 at 1:16"),
-        ("view x", "S1 at 1:7"),
-        ("info", "S1 at 1:5"),
-        ("check v", "S1 at 1:7"),
-        ("? a]", "S1 at 1:4"),
-        ("?\n  (1\n  + ", "S1 at 3:4"),
-    ] {
-        let shown = command_shown(alloc, &g, text)?;
-        assert_eq!(rt; shown.as_str(), want, "at {text}");
-    }
-    'models: for (text, want) in [
-        ("", "S1 at 1:1"),
-        ("model", "S1 at 1:6"),
-        ("model M class A", "S1 at 1:16"),
-        ("model M class A attributes a end", "S1 at 1:30"),
-        ("model M end", "S1 at 1:9"),
-        ("model M class A operations f() = end", "S1 at 1:34"),
-        ("model M association A between B[] C[1] end", "S1 at 1:33"),
-        ("model M\nconstraints context A\n", "S1 at 2:22"),
-    ] {
-        let shown = model_shown(alloc, &g, text)?;
-        assert_eq!(rt; shown.as_str(), want, "at {text}");
-    }
+    assert_eq!(rt; first_other(rt.alloc(), false, REFUSED_COMMANDS)?, None);
+    assert_eq!(rt; first_other(rt.alloc(), true, REFUSED_MODELS)?, None);
     Ok(())
 }
 
-// A text that stands `count` times between others.
-fn repeated(alloc: Global, front: &str, part: &str, count: u32, back: &str) -> Result<String, Fail>
-    ensures { IfOk result (λ s. string_len s ≤ 4194304) }
-{
-    let mut text = String::from_str(alloc, front)?;
-    'parts: for _ in 0..count {
-        text.push_str(part)?;
+// Some parts, one behind the other, between two texts.
+#[derive(Clone, Copy)]
+struct Nested {
+    front: &'static str,
+    part: &'static str,
+    count: u32,
+    back: &'static str,
+    want: &'static str,
+}
+
+fn text_of_nested(alloc: Global, nested: &Nested) -> Result<String, AllocError> {
+    let mut text = String::from_str(alloc, nested.front)?;
+    'parts: for _ in 0..nested.count {
+        text.push_str(nested.part)?;
     }
-    text.push_str(back)?;
-    if text.len() > 4_194_304 {
-        return Err(Fail::from("too long"));
-    }
+    text.push_str(nested.back)?;
     Ok(text)
+}
+
+// The first whose text does not become what is wanted.
+fn first_other_nested(alloc: Global, rows: &[Nested]) -> Result<Option<&'static str>, Fail> {
+    let g = grammar(alloc)?;
+    'rows: for row in rows {
+        let text = text_of_nested(alloc, row)?;
+        if shown(alloc, &g, false, text.as_str())?.as_str() != row.want {
+            return Ok(Some(row.part));
+        }
+    }
+    Ok(None)
+}
+
+const fn row_of(
+    front: &'static str,
+    part: &'static str,
+    count: u32,
+    back: &'static str,
+    want: &'static str,
+) -> Nested {
+    Nested {
+        front,
+        part,
+        count,
+        back,
+        want,
+    }
 }
 
 // Each parenthesis is one `expr` and one `unary`, and 200 rules that nest may be open.
 #[test]
 fn nesting_is_limited(rt: HostRuntime) -> Result<(), Fail> {
-    let alloc = rt.alloc();
-    let g = grammar(alloc)?;
-    'rows: for (front, part, count, back, want) in [
-        ("? ", "(", 99, "", "S1 at 1:102"),
-        ("? ", "(", 100, "", "S2 at 1:103"),
-        ("? ", "(", 100, "]", "S2 at 1:103"),
-        ("? ", "not ", 198, "", "S1 at 1:794"),
-        ("? ", "not ", 199, "", "S2 at 1:798"),
-        ("!declare x : ", "Set(", 198, "T", "S1 at 1:807"),
-        ("!declare x : ", "Set(", 200, "T", "S2 at 1:810"),
-        ("!", "while a do ", 198, "]", "S1 at 1:2180"),
-        ("!", "while a do ", 199, "]", "S2 at 1:2186"),
-    ] {
-        let text = repeated(alloc, front, part, count, back)?;
-        let shown = command_shown(alloc, &g, text.as_str())?;
-        assert_eq!(rt; shown.as_str(), want, "at {part}");
-    }
+    let rows = [
+        row_of("? ", "(", 99, "", "S1 at 1:102"),
+        row_of("? ", "(", 100, "", "S2 at 1:103"),
+        row_of("? ", "(", 100, "]", "S2 at 1:103"),
+        row_of("? ", "not ", 198, "", "S1 at 1:794"),
+        row_of("? ", "not ", 199, "", "S2 at 1:798"),
+        row_of("!declare x : ", "Set(", 198, "T", "S1 at 1:807"),
+        row_of("!declare x : ", "Set(", 200, "T", "S2 at 1:810"),
+        row_of("!", "while a do ", 198, "]", "S1 at 1:2180"),
+        row_of("!", "while a do ", 199, "]", "S2 at 1:2186"),
+    ];
+    assert_eq!(rt; first_other_nested(rt.alloc(), &rows)?, None);
     Ok(())
 }
