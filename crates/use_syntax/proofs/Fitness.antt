@@ -1,8 +1,6 @@
 -- No production of the language's table is unfit: a test of the whole table, computed.
-use Rattle.std.proofs.Common.{◌≡◌, ◌≤◌, ◌<◌, ℕ, ◌+◌, ◌-◌, ◌*◌, Bool, true, false, nat_lt, List, length, Option, Some, None, slice_get, refl, IsTrue, arith}
-use Rattle.grammar_core.specs.declared.table.Table.{Table}
-use Rattle.grammar_core.specs.Tables.{table_of}
-use Rattle.grammar_core.specs.Unfit.{all_inside, IsTable, IsFit}
+use Rattle.std.proofs.Common.{◌≡◌, ◌≤◌, ℕ, ◌+◌, ◌-◌, ◌*◌, Bool, true, false, nat_lt, List, length, Option, Some, None, slice_get, refl, IsTrue, arith}
+use Rattle.grammar_core.specs.Unfit.{all_inside, IsFit}
 use Rattle.use_syntax.specs.Language.{token_prods, call_prods, type_prods, expression_prods, statement_prods, command_prods, model_prods, all_prods, bodies, nests, language}
 use Rattle.use_syntax.proofs.Ranked.{are_ranked, ranked_not}
 

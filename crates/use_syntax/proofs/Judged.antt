@@ -1,5 +1,5 @@
 -- What the parser tells of a verdict, as a reading.
-use Rattle.std.proofs.Common.{◌≡◌, ℕ, List, Result, Ok, Err, refl, sym, ap, subst}
+use Rattle.std.proofs.Common.{◌≡◌, ℕ, List, Result, Ok, Err, sym, ap, subst}
 use Rattle.use_text.specs.declared.code.Family.TheVariants.{S}
 use Rattle.use_text.specs.declared.token.Token.{Token}
 use Rattle.use_text.specs.Codes.{code_of}
@@ -12,7 +12,7 @@ use Rattle.grammar_core.specs.Arena.{root_tree}
 use Rattle.grammar_core.specs.Derives.{Verdict, derived, stuck, deep, kinds}
 use Rattle.grammar_core.specs.Parses.{Tells, verdict}
 use Rattle.grammar_core.specs.Trees.{ParseTree}
-use Rattle.use_syntax.specs.Reading.{Reading, parsed, refused, judged, place_in, read_tokens}
+use Rattle.use_syntax.specs.Reading.{parsed, refused, judged, place_in, read_tokens}
 use Rattle.use_syntax.specs.Language.{language}
 
 told_tree : (ts : List Token) (nodes : List Node) (v : Verdict) → Tells (Ok nodes) v → judged ts v ≡ parsed ts (root_tree nodes)

@@ -1,5 +1,5 @@
 -- A text has at most one token more than bytes.
-use Rattle.std.proofs.Common.{◌≡◌, ◌≤◌, ℕ, zero, suc, ◌+◌, ◌==◌, ◌-◌, Bool, true, false, if◌then◌else◌, List, [], ◌∷◌, length, Result, Ok, Err, arith, refl, subst}
+use Rattle.std.proofs.Common.{◌≡◌, ◌≤◌, ℕ, zero, suc, ◌+◌, ◌==◌, ◌-◌, Bool, true, false, if◌then◌else◌, List, [], ◌∷◌, length, Ok, Err, arith, subst}
 use Rattle.std.specs.Str.Lossy.{utf8_valid_len}
 use Rattle.use_text.specs.declared.place.Place.{Place}
 use Rattle.use_text.specs.declared.refusal.Refusal.{Refusal}
@@ -9,7 +9,7 @@ use Rattle.use_text.specs.declared.piece.Piece.TheVariants.{White, Token, Bad}
 use Rattle.use_text.specs.declared.token.TokenKind.TheVariants.{End}
 use Rattle.use_text.specs.Pieces.{piece_of}
 use Rattle.use_text.specs.Places.{place_at, behind}
-use Rattle.use_text.specs.Tokens.{Tokens, token_at, before, reading, tokens_from, tokens_of_utf8, tokens, utf8_end}
+use Rattle.use_text.specs.Tokens.{Tokens, token_at, before, reading, tokens_from, tokens_of_utf8, tokens}
 
 -- at most one token more than n
 abbrev pub IsShort : ℕ → Tokens → Type 0

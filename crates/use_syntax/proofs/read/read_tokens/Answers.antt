@@ -1,4 +1,4 @@
-use Rattle.std.proofs.Common.{◌≡◌, ◌<◌, ℕ, length, sym, ap, ◌∙◌, subst, arith}
+use Rattle.std.proofs.Common.{◌≡◌, length, sym, ap, ◌∙◌, arith}
 use Rattle.use_text.specs.declared.code.Family.TheVariants.{S}
 use Rattle.use_text.specs.declared.place.Place.{Place}
 use Rattle.use_text.specs.Codes.{code_of}
@@ -6,7 +6,7 @@ use Rattle.use_text.specs.Refusals.{refusal_at}
 use Rattle.grammar_core.specs.declared.table.Table.{Table}
 use Rattle.grammar_core.specs.Arena.{root_tree}
 use Rattle.use_syntax.specs.Numbers.{number_of_rule}
-use Rattle.use_syntax.specs.Reading.{parsed, refused, place_in, read_tokens}
+use Rattle.use_syntax.specs.Reading.{parsed, refused, place_in}
 use Rattle.use_syntax.proofs.Fitness.{rules_there}
 use Rattle.use_syntax.proofs.Judged.{read_tree, read_stuck, read_deep}
 use Rattle.use_syntax.proofs.read.read_tokens.Goals as goal

@@ -4,7 +4,7 @@ use Rattle.grammar_core.specs.declared.table.Prod.{Prod}
 use Rattle.grammar_core.specs.declared.fault.GrammarFault.{GrammarFault}
 use Rattle.grammar_core.specs.declared.fault.GrammarFault.TheVariants.{Memory, Unfit}
 use Rattle.grammar_core.specs.Tables.{table_of}
-use Rattle.grammar_core.specs.Unfit.{all_inside, IsFaultOf, IsFit}
+use Rattle.grammar_core.specs.Unfit.{all_inside, IsFaultOf}
 use Rattle.use_syntax.specs.Language.{all_prods, bodies, nests, language}
 use Rattle.use_syntax.proofs.Fitness.{few, paired, inside, is_fit}
 use Rattle.use_syntax.proofs.table.grammar.Goals as goal

@@ -1,11 +1,10 @@
-use Rattle.std.proofs.Common.{◌≡◌, refl, sym, ap, ◌∙◌, List, [], ◌∷◌, map, Option, Some, None, Bor, subst}
+use Rattle.std.proofs.Common.{◌≡◌, refl, sym, ap, ◌∙◌, List, [], ◌∷◌, map, Some, None, Bor, subst}
 use Rattle.use_text.specs.declared.token.TokenKind.{TokenKind}
 use Rattle.grammar_core.specs.declared.table.Branch.{Branch}
-use Rattle.grammar_core.specs.declared.table.Prod.{Prod}
 use Rattle.grammar_core.specs.declared.table.Prod.TheVariants.{Case}
 use Rattle.use_syntax.specs.declared.row.Symbol.{Symbol}
 use Rattle.use_syntax.specs.declared.row.Row.{Row}
-use Rattle.use_syntax.specs.Forms.{branch_of, branches_of, form_of, prod_of, place_of}
+use Rattle.use_syntax.specs.Forms.{branch_of, branches_of, form_of, prod_of}
 use Rattle.use_syntax.proofs.table.prod_of.Goals as goal
 
 branches_same : (bs : List (Bor (List TokenKind) × Symbol)) → map (λ b. branch_of b.0.now b.1) bs ≡ branches_of (map (λ b. (b.0.now, b.1)) bs)
