@@ -1,8 +1,7 @@
 -- What `make` makes is well made.
-use Rattle.std.proofs.Common.{◌≡◌, ℕ, ◌+◌, ◌<◌, ◌≤◌, ◌++◌, nat_le, max, ◌||◌, Bool, true, false, cond, All, List, [], ◌∷◌, ap, ap₂, refl, ◌∙◌, sym, subst, true≢false, arith}
+use Rattle.std.proofs.Common.{◌≡◌, ℕ, ◌≤◌, nat_le, ◌||◌, Bool, true, false, cond, List, [], ◌∷◌, ap, ap₂, refl, ◌∙◌, sym, subst, true≢false, arith}
 use Rattle.std.specs.List.{AllByRecursion}
 use Rattle.std.proofs.lemmas.Bool.{cond_both}
-use Rattle.std.proofs.lemmas.List.Elements.{recursion_from_All}
 use Rattle.use_orders.proofs.Bags.{bag_bag}
 use Rattle.use_orders.proofs.Merged.{set_set}
 use Rattle.use_orders.proofs.Kept.{all_bag, all_set, all_firsts, firsts_firsts}

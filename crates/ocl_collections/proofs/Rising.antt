@@ -1,5 +1,5 @@
 -- The elements of Sets and Bags are in order, and what stands in a well-made collection.
-use Rattle.std.proofs.Common.{◌≡◌, ◌∙◌, List, ap, ap₂, subst, sym, IsSorted}
+use Rattle.std.proofs.Common.{◌≡◌, ◌∙◌, List, ap, subst, sym, IsSorted}
 use Rattle.use_orders.proofs.Bags.{sorted_bag}
 use Rattle.use_orders.proofs.Merged.{sorted_set}
 use Rattle.ocl_values.specs.Order.{value_cmp}

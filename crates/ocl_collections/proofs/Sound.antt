@@ -1,5 +1,5 @@
 -- What the operations give is well made.
-use Rattle.std.proofs.Common.{◌≡◌, ℕ, zero, suc, ◌+◌, ◌-◌, ◌≤◌, nat_le, ◌&&◌, not, Bool, true, false, cond, if◌then◌else◌, All, List, [], ◌∷◌, ◌++◌, length, take, drop, reverse, filter, map, fold, get_or, refl, ap, sym, subst, ◌∙◌, ℤ, pos, negsuc, ◌+ℤ◌, ◌-ℤ◌, ◌*ℤ◌, neg_ℤ, int_div, unsigned_abs, max, Option, Some, None, Ordering, is_eq, Result, Ok, Err, IfOk, arith}
+use Rattle.std.proofs.Common.{◌≡◌, ℕ, zero, suc, ◌+◌, ◌-◌, ◌≤◌, not, Bool, true, false, if◌then◌else◌, All, List, [], ◌∷◌, ◌++◌, length, take, drop, reverse, filter, map, fold, get_or, refl, ap, sym, subst, ℤ, pos, negsuc, ◌+ℤ◌, ◌-ℤ◌, ◌*ℤ◌, neg_ℤ, int_div, unsigned_abs, max, Option, Some, None, Ordering, is_eq, Result, Ok, Err, IfOk, arith}
 use Rattle.std.specs.List.{AllByRecursion, zip}
 use mathlib.Core.List.{reverse_aux}
 use Rattle.std.specs.Int.{int_min, int_max}
@@ -20,8 +20,8 @@ use Rattle.ocl_values.specs.Shape.{levels_of, row_levels, most_levels, canon, so
 use Rattle.ocl_collections.specs.declared.op.CollOp.{CollOp}
 use Rattle.ocl_collections.specs.declared.op.CollOp.TheVariants as C
 use Rattle.ocl_collections.specs.Arguments.{with_integer, with_collection}
-use Rattle.ocl_collections.specs.SetAlgebra.{union_kind, in_kind, union, intersection, difference, symmetric_difference}
-use Rattle.ocl_collections.specs.Positions.{has_places, put, append, prepend, insert_at, at, first, last, place_from, index_of, part, sub_sequence, sub_ordered_set, reversed}
+use Rattle.ocl_collections.specs.SetAlgebra.{union_kind, in_kind, intersection, difference, symmetric_difference}
+use Rattle.ocl_collections.specs.Positions.{put, insert_at, at, place_from, part, sub_sequence, sub_ordered_set}
 use Rattle.ocl_collections.specs.Sums.{integer, joined_by}
 use Rattle.ocl_collections.specs.Flattening.{leaves, row_leaves, all_leaves}
 use Rattle.ocl_collections.specs.Sorting.{by_keys}

@@ -2,8 +2,7 @@
 use Rattle.std.specs.Prelude.{List, ℤ}
 use Rattle.ocl_values.specs.declared.value.Kind.{Kind}
 use Rattle.ocl_values.specs.declared.value.Value.{Value, items-the_row-Value}
-use Rattle.ocl_values.specs.declared.value.Value.TheVariants as V
-use Rattle.ocl_values.specs.declared.value.Value.TheVariants.{Null, Invalid, Int, Str, Enum, Obj, Coll'}
+use Rattle.ocl_values.specs.declared.value.Value.TheVariants.{Invalid, Int, Coll'}
 
 abbrev pub with_integer : Value → (ℤ → Value) → Value
 with_integer (Int n) f = f n

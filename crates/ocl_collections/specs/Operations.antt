@@ -1,6 +1,5 @@
 -- The table of operations. A source that is no collection, an argument that is invalid, and arguments of another number or kind make the result invalid.
-use Rattle.std.specs.Prelude.{Bool, not, cond, List, [], ◌∷◌, length, pos}
-use Rattle.ocl_values.specs.Logic.{yes, no}
+use Rattle.std.specs.Prelude.{not, cond, List, [], ◌∷◌, length, pos}
 use Rattle.ocl_values.specs.Shape.{canon, some_invalid}
 use Rattle.ocl_values.specs.declared.value.Kind.{Kind}
 use Rattle.ocl_values.specs.declared.value.Kind.TheVariants as K

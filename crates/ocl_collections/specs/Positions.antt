@@ -1,5 +1,5 @@
 -- Operations by place, of Sequences and OrderedSets. Places count from 1; one out of range makes the result invalid.
-use Rattle.std.specs.Prelude.{ℕ, ◌+◌, ◌-◌, nat_le, nat_eq, ◌&&◌, Bool, true, false, cond, if◌then◌else◌, List, [], ◌∷◌, ◌++◌, length, take, drop, reverse, slice_index_or, ℤ, pos, negsuc}
+use Rattle.std.specs.Prelude.{ℕ, ◌+◌, ◌-◌, nat_le, ◌&&◌, Bool, true, false, cond, if◌then◌else◌, List, [], ◌∷◌, ◌++◌, length, take, drop, reverse, slice_index_or, ℤ, pos, negsuc}
 use Rattle.std.specs.Ordering.{is_eq}
 use Rattle.use_orders.specs.Canon.{has}
 use Rattle.ocl_values.specs.Order.{value_cmp}

@@ -1,11 +1,10 @@
 -- The sum of integers, the greatest and the least. An element that is null makes the result invalid.
-use Rattle.std.specs.Prelude.{List, [], ◌∷◌, fold, ℤ, pos}
+use Rattle.std.specs.Prelude.{List, [], ◌∷◌, fold, pos}
 use Rattle.ocl_values.specs.Integers.{int_op_value}
 use Rattle.ocl_values.specs.declared.integer.IntOp.{IntOp}
 use Rattle.ocl_values.specs.declared.integer.IntOp.TheVariants.{Add, Max, Min}
 use Rattle.ocl_values.specs.declared.value.Value.{Value}
-use Rattle.ocl_values.specs.declared.value.Value.TheVariants as V
-use Rattle.ocl_values.specs.declared.value.Value.TheVariants.{Null, Invalid, Int, Str, Enum, Obj, Coll'}
+use Rattle.ocl_values.specs.declared.value.Value.TheVariants.{Invalid, Int}
 
 -- each element added to the sum of those before it, from 0; a sum out of range on the way is invalid
 abbrev pub sum : List Value → Value

@@ -1,5 +1,5 @@
 -- What two lists in order share, step by step.
-use Rattle.std.proofs.Common.{◌≡◌, subst, ◌||◌, ◌++◌, ◌+◌, ◌<◌, ◌≤◌, ◌⊎◌, inl, inr, ℕ, zero, suc, Bool, true, false, cond, List, [], ◌∷◌, drop, get_or, length, refl, sym, ap, ap₂, ◌∙◌, IsSorted, Ordering, Less, Equal, Greater, is_eq, is_gt, arith, drop-cons, add-one, append_assoc, append-nil, drop_of_length-le}
+use Rattle.std.proofs.Common.{◌≡◌, subst, ◌||◌, ◌++◌, ◌+◌, ◌<◌, ◌⊎◌, inl, inr, ℕ, zero, suc, false, cond, List, [], ◌∷◌, drop, get_or, length, refl, sym, ap, ap₂, ◌∙◌, IsSorted, Ordering, Less, Equal, Greater, is_eq, is_gt, arith, drop-cons, append_assoc}
 use Rattle.std.specs.Ordering.{ordering_reverse}
 use Rattle.std.specs.Cmp.{IsTotalOrder}
 use Rattle.std.specs.List.{AllByRecursion}

@@ -1,4 +1,3 @@
-use Rattle.std.proofs.Common.{Result, Ok, Err, IfOk, ◌≡◌, sym, subst}
 use Rattle.std.proofs.lemmas.List.Elements.{recursion_from_All}
 use Rattle.ocl_values.specs.Shape.{IsWellMade}
 use Rattle.ocl_values.proofs.WellMade.{well_result}

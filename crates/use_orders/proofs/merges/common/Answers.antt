@@ -1,5 +1,4 @@
-use Rattle.std.proofs.Common.{◌≡◌, ◌++◌, ◌⊎◌, inl, inr, ap, sym, ◌∙◌, append-nil, drop_of_length-le, drop}
-use Rattle.use_orders.specs.Canon.{common_of}
+use Rattle.std.proofs.Common.{◌++◌, inl, inr, ap, sym, ◌∙◌, append-nil, drop_of_length-le, drop}
 use Rattle.use_orders.proofs.Shared.{ended}
 use Rattle.use_orders.proofs.merges.common.Goals as goal
 use Rattle.use_orders.proofs.merges.common.Goals.{then-walk-test+else-j-b, else-walk-test}

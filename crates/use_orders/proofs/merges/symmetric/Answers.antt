@@ -1,5 +1,5 @@
 use Rattle.std.proofs.Common.{IfOk, ◌≡◌, subst, sym, ap₂, ◌++◌, ◌∙◌, not}
-use Rattle.use_orders.specs.Canon.{has, set_of, without}
+use Rattle.use_orders.specs.Canon.{has, set_of}
 use Rattle.use_orders.proofs.Merged.{set_filter, sorted_set}
 use Rattle.use_orders.proofs.merges.symmetric.Goals as goal
 

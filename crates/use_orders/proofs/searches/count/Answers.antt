@@ -1,4 +1,4 @@
-use Rattle.std.proofs.Common.{◌≡◌, ◌+◌, ◌≤◌, arith}
+use Rattle.std.proofs.Common.{arith}
 use Rattle.use_orders.proofs.Points.{ties_between}
 use Rattle.use_orders.proofs.searches.count.Goals as goal
 
