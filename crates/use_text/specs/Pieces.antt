@@ -15,6 +15,10 @@ use Rattle.use_text.specs.Codes.{code_of}
 abbrev pub is_white : ℕ → Bool
 is_white b = (b == 32) || (b == 9) || (b == 13) || (b == 10)
 
+-- how many bytes of white space bytes begin with
+abbrev pub white_length : List ℕ → ℕ
+white_length bytes = length (take_while is_white bytes)
+
 -- an ASCII letter or `_`
 abbrev pub is_letter : ℕ → Bool
 is_letter b = (nat_le 97 b && nat_le b 122) || (nat_le 65 b && nat_le b 90) || (b == 95)
@@ -99,7 +103,7 @@ mark_piece bytes =
 abbrev pub piece_of : List ℕ → Piece
 piece_of [] = Bad (code_of L 2)
 piece_of (b ∷ rest) =
-    if is_white b then White (length (take_while is_white (b ∷ rest)))
+    if is_white b then White (white_length (b ∷ rest))
     else (if is_letter b then word_piece (take_while is_name_byte (b ∷ rest))
     else (if is_digit b then number_piece (take_while is_digit (b ∷ rest))
     else (if b == 39 then string_piece rest

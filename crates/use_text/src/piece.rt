@@ -1,5 +1,5 @@
 ghost use Rattle.std.specs.Prelude.{◌≡◌, ◌^◌, ◌-◌, ◌+◌, ◌<◌, ◌≤◌, false, min, length, drop, take_while};
-ghost use Rattle.use_text.specs.Pieces.{is_white, is_letter, is_digit, is_name_byte, is_in_line, digits_value, same_text, begins, kind_among, word_kind, word_piece, number_of_digits, number_piece, string_end, string_piece, comment_end, comment_piece, at_piece, symbol_among, symbol_piece, mark_piece, piece_of};
+ghost use Rattle.use_text.specs.Pieces.{is_white, white_length, is_letter, is_digit, is_name_byte, is_in_line, digits_value, same_text, begins, kind_among, word_kind, word_piece, number_of_digits, number_piece, string_end, string_piece, comment_end, comment_piece, at_piece, symbol_among, symbol_piece, mark_piece, piece_of};
 
 use crate::words::{SYMBOLS, WORDS};
 use crate::{Code, TokenKind};
@@ -34,14 +34,17 @@ fn is_digit(b: u8) -> bool
     b.is_ascii_digit()
 }
 
-fn is_name_byte(b: u8) -> bool
+/// Whether a byte is an ASCII letter, a digit or `_`.
+pub fn is_name_byte(b: u8) -> bool
     ensures { result ≡ is_name_byte b }
 {
     is_letter(b) || is_digit(b)
 }
 
-fn white_length(bytes: &[u8]) -> usize
-    ensures { result ≡ length (take_while is_white bytes.now) }
+/// How many bytes of white space the bytes begin with.
+pub fn white_length(bytes: &[u8]) -> usize
+    ensures length { result ≡ white_length bytes.now }
+    ensures within { result ≤ length bytes.now }
 {
     bytes.iter().take_while(|b| is_white(**b)).count()
 }
