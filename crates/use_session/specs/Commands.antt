@@ -1,47 +1,55 @@
 -- Commands, as they are read from their tokens.
-use Rattle.std.specs.Prelude.{ℕ, ◌==◌, ◌&&◌, not, true, nat_le, if◌then◌else◌, Bool, codes, take, drop, take_while, List, [], ◌∷◌, length, Option, Some, None, Ok, Err, ℤ, slice_range, All, ⊤}
+use Rattle.std.specs.Prelude.{ℕ, ◌&&◌, not, true, nat_le, if◌then◌else◌, Bool, codes, take, drop, List, [], ◌∷◌, length, Option, Some, None, is_some, ℤ, slice_range, All, ⊤}
 use Rattle.std.specs.Int.{IsNonNegative}
 use Rattle.use_text.specs.declared.cut.Cut.{Cut}
 use Rattle.use_text.specs.declared.cut.Fate.{Fate}
 use Rattle.use_text.specs.declared.cut.Fate.TheVariants.{Whole, TooLong, Unfinished}
 use Rattle.use_text.specs.declared.token.Token.{Token}
-use Rattle.use_text.specs.declared.token.TokenKind.{TokenKind}
-use Rattle.use_text.specs.declared.token.TokenKind.TheVariants.{End, Int, Question, Plus}
-use Rattle.use_text.specs.Kinds.{number_of}
+use Rattle.use_text.specs.declared.token.TokenKind.TheVariants as k
 use Rattle.use_text.specs.declared.place.Place.{Place}
 use Rattle.use_text.specs.declared.code.Family.TheVariants.{K, S}
 use Rattle.use_text.specs.Codes.{code_of}
 use Rattle.use_text.specs.Places.{place_at, behind_all}
 use Rattle.use_text.specs.Refusals.{refusal_at}
-use Rattle.use_text.specs.Pieces.{is_white, is_name_byte, begins, number_of_digits}
+use Rattle.use_text.specs.Pieces.{white_length, is_name_byte, begins, number_of_digits}
+use Rattle.grammar_core.specs.Trees.{ParseTree}
+use Rattle.use_syntax.specs.declared.rule.Rule.TheVariants as r
 use Rattle.use_syntax.specs.Reading.{Reading, parsed, refused, read_command}
+use Rattle.use_nodes.specs.declared.commands.CommandNode.{CommandNode}
+use Rattle.use_nodes.specs.declared.commands.QueryNode.{QueryNode}
+use Rattle.use_nodes.specs.Nodes.{and_then, child, has, is_token, through, token_in}
+use Rattle.use_nodes.specs.CommandNodes.{command_node, query_node}
+use Rattle.use_nodes.specs.ExpressionNodes.{chain_node}
 use Rattle.use_session.specs.declared.command.Command.{Command}
 use Rattle.use_session.specs.declared.command.Command.TheVariants.{Empty, Query, Refused}
 
-abbrev pub is_kind : TokenKind → Token → Bool
-is_kind kind t = t.kind == number_of kind
-
 -- the number that a token writes
-abbrev pub number_at : List ℕ → Token → Option ℤ
-number_at text t = if is_kind Int t then number_of_digits (slice_range text t.start t.end) else None
+abbrev pub number_written : List ℕ → Token → Option ℤ
+number_written text t = number_of_digits (slice_range text t.start t.end)
 
--- a number in front of more
-abbrev pub and_then : Option ℤ → Option (List ℤ) → Option (List ℤ)
-and_then None ns = None
-and_then (Some n) None = None
-and_then (Some n) (Some ns) = Some (n ∷ ns)
+-- the number that a node writes, where it is a token that does
+abbrev pub literal : List ℕ → List Token → ParseTree → Option ℤ
+literal text ts t = if is_token k.Int t then and_then (token_in ts t) (number_written text) else None
 
--- any number of `+` INT, and then the end
-abbrev pub more_numbers : List ℕ → List Token → Option (List ℤ)
-more_numbers text [] = None
-more_numbers text (t ∷ []) = if is_kind End t then Some [] else None
-more_numbers text (t ∷ n ∷ ts) = if is_kind Plus t then and_then (number_at text n) (more_numbers text ts) else None
+-- an operand that is a number alone
+abbrev pub operand : List ℕ → List Token → ParseTree → Option ℤ
+operand text ts t = and_then (through (r.Unary ∷ r.Postfix ∷ r.Primary ∷ []) t) (λ primary. and_then (child 0 primary) (literal text ts))
 
--- `?` INT, and any number of `+` INT
-abbrev pub sum_numbers : List ℕ → List Token → Option (List ℤ)
-sum_numbers text [] = None
-sum_numbers text (q ∷ []) = None
-sum_numbers text (q ∷ n ∷ ts) = if is_kind Question q then and_then (number_at text n) (more_numbers text ts) else None
+-- all operands, where each is a number
+abbrev pub operands : List ℕ → List Token → List ParseTree → Option (List ℤ)
+operands text ts [] = Some []
+operands text ts (t ∷ more) = and_then (operand text ts t) (λ n. and_then (operands text ts more) (λ ns. Some (n ∷ ns)))
+
+-- the row of an expression that is at most a sum
+abbrev pub sums_of : ParseTree → Option ParseTree
+sums_of expression = through (r.Xors ∷ r.Ors ∷ r.Ands ∷ r.Eqs ∷ r.Rels ∷ r.Sums ∷ []) expression
+
+-- the numbers of `INT { '+' INT }`
+abbrev pub numbers_in : List ℕ → List Token → ParseTree → Option (List ℤ)
+numbers_in text ts sums = if has k.Minus sums then None else and_then (chain_node sums) (λ chain. operands text ts chain.operands)
+
+abbrev pub summands : List ℕ → List Token → ParseTree → Option (List ℤ)
+summands text ts expression = and_then (sums_of expression) (numbers_in text ts)
 
 -- the most numbers of a sum
 abbrev pub max_numbers : ℕ
@@ -55,18 +63,26 @@ abbrev pub query_of : Place → Option (List ℤ) → Command
 query_of place None = unbuilt place
 query_of place (Some ns) = if nat_le (length ns) max_numbers then Query ns else unbuilt place
 
--- the first token is the end, or the place of what is not built
-abbrev pub command_of_list : List ℕ → List Token → Command
-command_of_list text [] = Empty
-command_of_list text (t ∷ ts) = if is_kind End t then Empty else query_of t.place (sum_numbers text (t ∷ ts))
+-- `?` and a sum
+abbrev pub query_numbers : List ℕ → List Token → QueryNode → Option (List ℤ)
+query_numbers text ts query = if is_some query.explained then None else summands text ts query.expression
 
-abbrev pub command_of_reading : List ℕ → Reading → Command
-command_of_reading text (parsed ts tree) = command_of_list text ts
-command_of_reading text (refused r) = Refused r
+abbrev pub command_of_form : Place → List ℕ → List Token → Option ParseTree → Command
+command_of_form place text ts None = Empty
+command_of_form place text ts (Some form) = query_of place (and_then (query_node form) (query_numbers text ts))
 
--- how many bytes of white space a text begins with
-abbrev pub white_length : List ℕ → ℕ
-white_length text = length (take_while is_white text)
+-- the place of what is not built is that of the first token
+abbrev pub command_of_parts : Place → List ℕ → List Token → Option CommandNode → Command
+command_of_parts place text ts None = unbuilt place
+command_of_parts place text ts (Some command) = command_of_form place text ts command.form
+
+abbrev pub place_of_first : ℕ → List Token → Place
+place_of_first line [] = place_at line 1
+place_of_first line (t ∷ ts) = t.place
+
+abbrev pub command_of_reading : ℕ → List ℕ → Reading → Command
+command_of_reading line text (parsed ts tree) = command_of_parts (place_of_first line ts) text ts (command_node tree)
+command_of_reading line text (refused r) = Refused r
 
 abbrev pub ends_word : List ℕ → Bool
 ends_word [] = true
@@ -81,7 +97,7 @@ abbrev pub first_place : ℕ → List ℕ → Place
 first_place line text = behind_all (place_at line 1) (take (white_length text) text)
 
 abbrev pub command_of_text : ℕ → List ℕ → Command
-command_of_text line text = if opens_file text then unbuilt (first_place line text) else command_of_reading text (read_command line text)
+command_of_text line text = if opens_file text then unbuilt (first_place line text) else command_of_reading line text (read_command line text)
 
 -- by how the command ended
 abbrev pub command_of_fate : Fate → ℕ → List ℕ → Command

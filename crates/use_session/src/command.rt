@@ -4,17 +4,21 @@ ghost use Rattle.use_text.specs.Cuts.{IsCommand};
 ghost use Rattle.use_text.specs.Places.{place_at};
 ghost use Rattle.use_text.specs.Refusals.{refusal_at};
 ghost use Rattle.use_text.specs.Tokens.{IsWithin};
+ghost use Rattle.grammar_core.specs.Arena.{root_tree};
 ghost use Rattle.use_syntax.specs.Language.{language};
 ghost use Rattle.use_syntax.specs.Reading.{read_command};
-ghost use Rattle.use_session.specs.Commands.{command_of, command_of_text, command_of_reading, command_of_list, query_of, unbuilt, AddsUp};
+ghost use Rattle.use_nodes.specs.Nodes.{and_then};
+ghost use Rattle.use_nodes.specs.CommandNodes.{command_node, query_node};
+ghost use Rattle.use_session.specs.Commands.{command_of, command_of_text, command_of_reading, command_of_parts, command_of_form, place_of_first, query_numbers, query_of, unbuilt, AddsUp};
 
 use crate::file_word::{first_place, opens_file};
-use crate::sum::{is_kind, sum_numbers};
+use crate::sum::query_numbers;
 use grammar_core::Grammar;
 use std::alloc::{AllocError, Global};
 use use_lists::Items;
-use use_syntax::{SyntaxFault, read_command};
-use use_text::{Code, Cut, Fate, Place, Refusal, Token, TokenKind};
+use use_nodes::{CommandNode, NodeRef, QueryNode};
+use use_syntax::{Parsed, SyntaxFault, read_command};
+use use_text::{Code, Cut, Fate, Place, Refusal, Token};
 
 /// What a command asks for.
 #[derive(Debug, Drop, PartialEq, Eq)]
@@ -108,26 +112,69 @@ fn read_parsed(
     requires table { grammar.now ≡ language }
     requires text { length text.now ≤ 65536 }
     requires line { line ≤ 4000000000 }
-    ensures command { IfOk result (λ command. command ≡ command_of_reading text.now (read_command line text.now)) }
+    ensures command { IfOk result (λ command. command ≡ command_of_reading line text.now (read_command line text.now)) }
     ensures not_negative { IfOk result AddsUp }
 {
     match read_command(alloc, grammar, text, line) {
-        Ok(parsed) => read_list(alloc, parsed.text.as_slice(), parsed.tokens.as_slice()),
+        Ok(parsed) => read_tree(alloc, &parsed, line),
         Err(SyntaxFault::Refused(refusal)) => Ok(Command::Refused(refusal)),
         Err(SyntaxFault::Memory) => Err(AllocError),
     }
 }
 
-fn read_list(alloc: Global, text: &[u8], tokens: &[Token]) -> Result<Command, AllocError>
-    requires { All (IsWithin (length text.now)) tokens.now }
-    ensures command { IfOk result (λ command. command ≡ command_of_list text.now tokens.now) }
+/// The place of the first token.
+fn place_of_first(line: u32, tokens: &[Token]) -> Place
+    ensures { result ≡ place_of_first line tokens.now }
+{
+    match tokens.first() {
+        Some(token) => token.place,
+        None => Place { line, col: 1 },
+    }
+}
+
+fn read_tree(alloc: Global, parsed: &Parsed, line: u32) -> Result<Command, AllocError>
+    requires { All (IsWithin (length parsed.now.text)) parsed.now.tokens }
+    ensures command { IfOk result (λ command. command ≡ command_of_parts (place_of_first line parsed.now.tokens) parsed.now.text parsed.now.tokens (command_node (root_tree parsed.now.tree))) }
     ensures not_negative { IfOk result AddsUp }
 {
-    let Some(&first) = tokens.first() else {
-        return Ok(Command::Empty);
-    };
-    if is_kind(TokenKind::End, first) {
-        return Ok(Command::Empty);
+    let tokens = parsed.tokens.as_slice();
+    let place = place_of_first(line, tokens);
+    match CommandNode::of(&NodeRef::root(&parsed.tree)) {
+        Some(command) => read_form(alloc, place, parsed.text.as_slice(), tokens, command.form),
+        None => Ok(unbuilt(place)),
     }
-    Ok(query_of(first.place, sum_numbers(alloc, text, tokens)?))
+}
+
+fn read_form(
+    alloc: Global,
+    place: Place,
+    text: &[u8],
+    tokens: &[Token],
+    form: Option<NodeRef<'_>>,
+) -> Result<Command, AllocError>
+    requires { All (IsWithin (length text.now)) tokens.now }
+    ensures command { IfOk result (λ command. command ≡ command_of_form place text.now tokens.now form.entry) }
+    ensures not_negative { IfOk result AddsUp }
+{
+    match form {
+        Some(form) => Ok(query_of(place, numbers_of(alloc, text, tokens, &form)?)),
+        None => Ok(Command::Empty),
+    }
+}
+
+/// The numbers of a form that is a query of a sum.
+fn numbers_of(
+    alloc: Global,
+    text: &[u8],
+    tokens: &[Token],
+    form: &NodeRef<'_>,
+) -> Result<Option<Items<i128>>, AllocError>
+    requires { All (IsWithin (length text.now)) tokens.now }
+    ensures numbers { IfOk result (λ numbers. numbers ≡ and_then (query_node form.now) (query_numbers text.now tokens.now)) }
+    ensures not_negative { IfOk result (λ numbers. IfSome numbers (All IsNonNegative)) }
+{
+    match QueryNode::of(form) {
+        Some(query) => query_numbers(alloc, text, tokens, &query),
+        None => Ok(None),
+    }
 }

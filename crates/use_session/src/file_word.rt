@@ -1,27 +1,7 @@
 ghost use Rattle.std.specs.Prelude.{◌≡◌, ◌≤◌, length};
-ghost use Rattle.use_text.specs.Pieces.{is_white, is_name_byte};
-ghost use Rattle.use_session.specs.Commands.{white_length, ends_word, opens_file, first_place};
+ghost use Rattle.use_session.specs.Commands.{ends_word, opens_file, first_place};
 
-use use_text::{Place, behind_all};
-
-fn is_white(b: u8) -> bool
-    ensures { result ≡ is_white b }
-{
-    b == b' ' || b == b'\t' || b == b'\r' || b == b'\n'
-}
-
-fn is_name_byte(b: u8) -> bool
-    ensures { result ≡ is_name_byte b }
-{
-    b.is_ascii_lowercase() || b.is_ascii_uppercase() || b == b'_' || b.is_ascii_digit()
-}
-
-fn white_length(text: &[u8]) -> usize
-    ensures length { result ≡ white_length text.now }
-    ensures within { result ≤ length text.now }
-{
-    text.iter().take_while(|b| is_white(**b)).count()
-}
+use use_text::{Place, behind_all, is_name_byte, white_length};
 
 fn ends_word(bytes: &[u8]) -> bool
     ensures { result ≡ ends_word bytes.now }

@@ -1,60 +1,45 @@
-ghost use Rattle.std.specs.Prelude.{◌≡◌, ◌+◌, ◌<◌, ◌≤◌, ◌==◌, IfOk, OnOk, [], ◌∷◌, ◌++◌, IfSome, IfNone, None, Some, All, length, drop};
+ghost use Rattle.std.specs.Prelude.{◌≡◌, IfOk, OnOk, [], ◌∷◌, ◌++◌, IfSome, All, length};
 ghost use Rattle.std.specs.Int.{IsNonNegative};
 ghost use Rattle.use_text.specs.Tokens.{IsWithin};
-ghost use Rattle.use_session.specs.Commands.{is_kind, number_at, and_then, more_numbers, sum_numbers};
+ghost use Rattle.use_session.specs.Commands.{literal, numbers_in, operand, operands, query_numbers, summands, sums_of};
 
 use std::alloc::{AllocError, Global};
 use use_lists::Items;
+use use_nodes::{ChainNode, NodeRef, Parts, QueryNode};
+use use_syntax::{Parsed, Rule};
 use use_text::{Token, TokenKind, number_of_digits};
 
-/// Whether a token is of this kind.
-pub fn is_kind(kind: TokenKind, token: Token) -> bool
-    ensures { result ≡ is_kind kind token }
-{
-    token.kind == kind.number()
-}
+/// The rules above a sum, from an expression on, and a sum's.
+const SUMS: [Rule; 6] = [
+    Rule::Xors,
+    Rule::Ors,
+    Rule::Ands,
+    Rule::Eqs,
+    Rule::Rels,
+    Rule::Sums,
+];
 
-/// The number that a token writes.
-fn number_at(text: &[u8], token: Token) -> Option<i128>
-    requires { IsWithin (length text.now) token }
-    ensures number { result ≡ number_at text.now token }
+/// The number that a node writes, where it is a token that does.
+fn literal(text: &[u8], tokens: &[Token], node: &NodeRef<'_>) -> Option<i128>
+    requires { All (IsWithin (length text.now)) tokens.now }
+    ensures number { result ≡ literal text.now tokens.now node.now }
     ensures not_negative { IfSome result IsNonNegative }
 {
-    if is_kind(TokenKind::Int, token) {
-        number_of_digits(&text[token.start as usize..token.end as usize])
-    } else {
-        None
+    if !node.is_token(TokenKind::Int) {
+        return None;
     }
+    let token = node.token_in(tokens)?;
+    number_of_digits(&text[token.start as usize..token.end as usize])
 }
 
-/// The number behind the `+` at `at`, if they are there.
-fn next_number(text: &[u8], tokens: &[Token], at: usize) -> Option<i128>
-    requires each { All (IsWithin (length text.now)) tokens.now }
-    requires within { at + 1 < length tokens.now }
-    ensures some { IfSome result (λ n. more_numbers text.now (drop at tokens.now) ≡ and_then (Some n) (more_numbers text.now (drop (at + 2) tokens.now))) }
-    ensures none { IfNone result (more_numbers text.now (drop at tokens.now) ≡ None) }
+/// An operand that is a number alone.
+fn operand(text: &[u8], tokens: &[Token], node: &NodeRef<'_>) -> Option<i128>
+    requires { All (IsWithin (length text.now)) tokens.now }
+    ensures number { result ≡ operand text.now tokens.now node.now }
     ensures not_negative { IfSome result IsNonNegative }
 {
-    if is_kind(TokenKind::Plus, tokens[at]) {
-        number_at(text, tokens[at + 1])
-    } else {
-        None
-    }
-}
-
-/// The first number, behind a `?`.
-fn first_number(text: &[u8], tokens: &[Token]) -> Option<i128>
-    requires each { All (IsWithin (length text.now)) tokens.now }
-    requires within { 1 < length tokens.now }
-    ensures some { IfSome result (λ n. sum_numbers text.now tokens.now ≡ and_then (Some n) (more_numbers text.now (drop 2 tokens.now))) }
-    ensures none { IfNone result (sum_numbers text.now tokens.now ≡ None) }
-    ensures not_negative { IfSome result IsNonNegative }
-{
-    if is_kind(TokenKind::Question, tokens[0]) {
-        number_at(text, tokens[1])
-    } else {
-        None
-    }
+    let primary = node.through(&[Rule::Unary, Rule::Postfix, Rule::Primary])?;
+    literal(text, tokens, &primary.child(0)?)
 }
 
 fn push_number(numbers: &mut Items<i128>, number: i128) -> Result<(), AllocError>
@@ -66,35 +51,77 @@ fn push_number(numbers: &mut Items<i128>, number: i128) -> Result<(), AllocError
     numbers.push(number)
 }
 
-/// The numbers of `?` INT and any number of `+` INT, or none where the tokens are another command.
-pub fn sum_numbers(
+/// All operands, where each is a number.
+fn all_operands(
     alloc: Global,
     text: &[u8],
     tokens: &[Token],
+    nodes: Parts<'_>,
 ) -> Result<Option<Items<i128>>, AllocError>
     requires { All (IsWithin (length text.now)) tokens.now }
-    ensures numbers { IfOk result (λ numbers. numbers ≡ sum_numbers text.now tokens.now) }
+    ensures numbers { IfOk result (λ numbers. numbers ≡ operands text.now tokens.now nodes.entry) }
     ensures not_negative { IfOk result (λ numbers. IfSome numbers (All IsNonNegative)) }
 {
-    if tokens.len() < 2 {
-        return Ok(None);
-    }
-    let Some(number) = first_number(text, tokens) else {
-        return Ok(None);
-    };
     let mut numbers = Items::new(alloc);
-    push_number(&mut numbers, number)?;
-    let mut at = 2usize;
-    'numbers: while at + 1 < tokens.len() {
-        let Some(number) = next_number(text, tokens, at) else {
+    'numbers: for node in nodes {
+        let Some(number) = operand(text, tokens, &node) else {
             return Ok(None);
         };
         push_number(&mut numbers, number)?;
-        at += 2;
     }
-    if at < tokens.len() && is_kind(TokenKind::End, tokens[at]) {
-        Ok(Some(numbers))
-    } else {
-        Ok(None)
+    Ok(Some(numbers))
+}
+
+/// The numbers of `INT { '+' INT }`, of which this is the row.
+fn numbers_in(
+    alloc: Global,
+    text: &[u8],
+    tokens: &[Token],
+    sums: &NodeRef<'_>,
+) -> Result<Option<Items<i128>>, AllocError>
+    requires { All (IsWithin (length text.now)) tokens.now }
+    ensures numbers { IfOk result (λ numbers. numbers ≡ numbers_in text.now tokens.now sums.now) }
+    ensures not_negative { IfOk result (λ numbers. IfSome numbers (All IsNonNegative)) }
+{
+    if sums.has(TokenKind::Minus) {
+        return Ok(None);
     }
+    match ChainNode::of(sums) {
+        Some(chain) => all_operands(alloc, text, tokens, chain.operands),
+        None => Ok(None),
+    }
+}
+
+/// The numbers of a sum, or none where the expression is another.
+fn summands(
+    alloc: Global,
+    text: &[u8],
+    tokens: &[Token],
+    expression: &NodeRef<'_>,
+) -> Result<Option<Items<i128>>, AllocError>
+    requires { All (IsWithin (length text.now)) tokens.now }
+    ensures numbers { IfOk result (λ numbers. numbers ≡ summands text.now tokens.now expression.now) }
+    ensures not_negative { IfOk result (λ numbers. IfSome numbers (All IsNonNegative)) }
+{
+    match expression.through(&SUMS) {
+        Some(sums) => numbers_in(alloc, text, tokens, &sums),
+        None => Ok(None),
+    }
+}
+
+/// The numbers of a query of a sum, or none where the query is another.
+pub fn query_numbers(
+    alloc: Global,
+    text: &[u8],
+    tokens: &[Token],
+    query: &QueryNode<'_>,
+) -> Result<Option<Items<i128>>, AllocError>
+    requires { All (IsWithin (length text.now)) tokens.now }
+    ensures numbers { IfOk result (λ numbers. numbers ≡ query_numbers text.now tokens.now query.now) }
+    ensures not_negative { IfOk result (λ numbers. IfSome numbers (All IsNonNegative)) }
+{
+    if query.explained.is_some() {
+        return Ok(None);
+    }
+    summands(alloc, text, tokens, &query.expression)
 }

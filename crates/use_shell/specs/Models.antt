@@ -1,44 +1,40 @@
 -- Model files.
-use Rattle.std.specs.Prelude.{ℕ, Bool, false, ◌&&◌, ◌||◌, ◌==◌, nat_lt, nat_le, if◌then◌else◌, List, [], ◌∷◌, length, Option, Some, None}
+use Rattle.std.specs.Prelude.{ℕ, Bool, false, nat_lt, if◌then◌else◌, List, [], ◌∷◌, length, Option, Some, None, is_none, slice_get}
 use Rattle.use_text.specs.declared.token.Token.{Token}
-use Rattle.use_text.specs.declared.token.TokenKind.{TokenKind}
-use Rattle.use_text.specs.declared.token.TokenKind.TheVariants.{End, Name, Model, Check}
 use Rattle.use_text.specs.declared.refusal.Refusal.{Refusal}
 use Rattle.use_text.specs.declared.code.Family.TheVariants.{F, S}
 use Rattle.use_text.specs.Codes.{code_of}
-use Rattle.use_text.specs.Kinds.{number_of}
 use Rattle.use_text.specs.declared.place.Place.{Place}
 use Rattle.use_text.specs.Places.{place_at}
 use Rattle.use_text.specs.Refusals.{refusal_at}
+use Rattle.grammar_core.specs.Trees.{ParseTree}
 use Rattle.use_syntax.specs.Reading.{Reading, parsed, refused, read_model}
+use Rattle.use_nodes.specs.declared.models.FileNode.{FileNode}
+use Rattle.use_nodes.specs.ModelNodes.{file_node}
 
 -- the most bytes of a model file
 abbrev pub max_model : ℕ
 max_model = 4194304
 
-abbrev pub is_kind : TokenKind → Token → Bool
-is_kind kind t = t.kind == number_of kind
-
--- a name, or a command word, which is one too
-abbrev pub is_name : Token → Bool
-is_name t = is_kind Name t || nat_le (number_of Check) t.kind
-
--- `model`, a name, and the end
-abbrev pub is_empty_model : List Token → Bool
-is_empty_model (m ∷ n ∷ e ∷ []) = is_kind Model m && is_name n && is_kind End e
-is_empty_model _ = false
+-- it is a model, and declares nothing
+abbrev pub is_empty_model : Option FileNode → Bool
+is_empty_model None = false
+is_empty_model (Some file) = is_none (slice_get file.declarations 0)
 
 -- a form that is not built yet, at this place
 abbrev pub unbuilt : Place → Option Refusal
 unbuilt place = Some (refusal_at (code_of S 0) place)
 
--- the first token is the place of what is not built
-abbrev pub refusal_of_list : List Token → Option Refusal
-refusal_of_list [] = unbuilt (place_at 1 1)
-refusal_of_list (t ∷ ts) = if is_empty_model (t ∷ ts) then None else unbuilt t.place
+abbrev pub place_of_first : List Token → Place
+place_of_first [] = place_at 1 1
+place_of_first (t ∷ ts) = t.place
+
+-- the place of what is not built is that of the first token
+abbrev pub refusal_of_tree : Place → ParseTree → Option Refusal
+refusal_of_tree place tree = if is_empty_model (file_node tree) then None else unbuilt place
 
 abbrev pub refusal_of_reading : Reading → Option Refusal
-refusal_of_reading (parsed ts tree) = refusal_of_list ts
+refusal_of_reading (parsed ts tree) = refusal_of_tree (place_of_first ts) tree
 refusal_of_reading (refused r) = Some r
 
 -- why a model file is refused, if it is: there is none, it is too long, a rule of tokens or grammar is broken, or its form is not built yet

@@ -3,54 +3,53 @@ ghost use Rattle.std.specs.FinMap.{get};
 ghost use Rattle.use_io.specs.Causes.{Rose};
 ghost use Rattle.use_text.specs.Places.{place_at};
 ghost use Rattle.use_text.specs.Refusals.{refusal_at};
+ghost use Rattle.grammar_core.specs.Arena.{root_tree};
 ghost use Rattle.use_syntax.specs.Language.{language};
 ghost use Rattle.use_syntax.specs.Reading.{read_model};
-ghost use Rattle.use_shell.specs.Models.{is_kind, is_name, is_empty_model, unbuilt, refusal_of_list, refusal_of_reading, model_refusal};
+ghost use Rattle.use_shell.specs.Models.{is_empty_model, place_of_first, refusal_of_tree, unbuilt, refusal_of_reading, model_refusal};
 
 use crate::stop::Stop;
 use grammar_core::{Grammar, GrammarFault};
 use std::alloc::Global;
 use use_io::{Shelf, ShelfFault};
-use use_syntax::{SyntaxFault, grammar, read_model};
-use use_text::{Code, Place, Refusal, Token, TokenKind};
+use use_nodes::{FileNode, NodeRef};
+use use_syntax::{Parsed, SyntaxFault, grammar, read_model};
+use use_text::{Code, Place, Refusal, Token};
 
 /// The most bytes of a model file.
 const MAX_MODEL: u32 = 4_194_304;
 
-fn is_kind(kind: TokenKind, token: Token) -> bool
-    ensures { result ≡ is_kind kind token }
+/// Whether it is a model, and declares nothing.
+fn is_empty_model(file: Option<FileNode<'_>>) -> bool
+    ensures { result ≡ is_empty_model file.entry }
 {
-    token.kind == kind.number()
+    match file {
+        Some(file) => {
+            let mut declarations = file.declarations;
+            declarations.next().is_none()
+        }
+        None => false,
+    }
 }
 
-/// Whether a token is a name, or a command word, which is one too.
-fn is_name(token: Token) -> bool
-    ensures { result ≡ is_name token }
+/// The place of the first token.
+fn place_of_first(tokens: &[Token]) -> Place
+    ensures { result ≡ place_of_first tokens.now }
 {
-    is_kind(TokenKind::Name, token) || token.kind >= TokenKind::Check.number()
+    match tokens.first() {
+        Some(token) => token.place,
+        None => Place { line: 1, col: 1 },
+    }
 }
 
-/// Whether the tokens are `model`, a name, and the end.
-fn is_empty_model(tokens: &[Token]) -> bool
-    ensures { result ≡ is_empty_model tokens.now }
+/// Why a model that was read is refused, if it is.
+fn refusal_of_tree(parsed: &Parsed) -> Option<Refusal>
+    ensures { result ≡ refusal_of_tree (place_of_first parsed.now.tokens) (root_tree parsed.now.tree) }
 {
-    tokens.len() == 3
-        && is_kind(TokenKind::Model, tokens[0])
-        && is_name(tokens[1])
-        && is_kind(TokenKind::End, tokens[2])
-}
-
-/// Why a model of these tokens is refused, if it is.
-fn refusal_of_list(tokens: &[Token]) -> Option<Refusal>
-    ensures { result ≡ refusal_of_list tokens.now }
-{
-    let Some(first) = tokens.first() else {
-        return unbuilt(Place { line: 1, col: 1 });
-    };
-    if is_empty_model(tokens) {
+    if is_empty_model(FileNode::of(&NodeRef::root(&parsed.tree))) {
         None
     } else {
-        unbuilt(first.place)
+        unbuilt(place_of_first(parsed.tokens.as_slice()))
     }
 }
 
@@ -74,7 +73,7 @@ fn refusal_of_text(alloc: Global, text: &[u8]) -> Result<Option<Refusal>, Stop>
 {
     let grammar = language(alloc)?;
     match read_model(alloc, &grammar, text) {
-        Ok(parsed) => Ok(refusal_of_list(parsed.tokens.as_slice())),
+        Ok(parsed) => Ok(refusal_of_tree(&parsed)),
         Err(SyntaxFault::Refused(refusal)) => Ok(Some(refusal)),
         Err(SyntaxFault::Memory) => Err(Stop::Memory),
     }

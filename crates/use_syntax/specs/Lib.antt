@@ -9,4 +9,3 @@ pub mod ModelForms
 pub mod RuleBodies
 pub mod Language
 pub mod Reading
-pub mod Nodes

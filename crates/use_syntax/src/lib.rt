@@ -6,7 +6,6 @@ mod expressions;
 mod fault;
 mod firsts;
 mod models;
-mod nodes;
 mod parsed;
 mod part;
 mod read;
@@ -18,7 +17,6 @@ mod table;
 mod types;
 
 pub use fault::SyntaxFault;
-pub use nodes::{is_rule, is_token};
 pub use parsed::Parsed;
 pub use read::{read_command, read_model};
 pub use rule::Rule;

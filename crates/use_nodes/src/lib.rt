@@ -1,0 +1,32 @@
+//! Nodes of the trees that texts are read as, with their parts by name.
+#![tactic(auto)]
+
+mod commands;
+mod expressions;
+mod models;
+mod node;
+mod parts;
+mod statements;
+mod types;
+
+pub use commands::{
+    CheckNode, CommandNode, EnterNode, ExecuteNode, ExitNode, InfoNode, QueryNode, ViewNode,
+};
+pub use expressions::{
+    ArgsNode, ArrowNode, BindNode, ChainNode, ChoiceNode, CollectionNode, DotNode, GroupNode,
+    ItemNode, LetNode, LiteralNode, NamedNode, PartNode, PostfixNode, PrimaryNode, UnaryNode,
+};
+pub use models::{
+    AssocEndNode, AssocNode, AttributeNode, ClassNode, CondNode, ConstraintsNode, ContextNode,
+    EnumNode, FileNode, HeadNode, InvNode, MultNode, OperNode, ParamNode, ParamsNode, ParentsNode,
+};
+pub use node::NodeRef;
+pub use parts::{Parts, Select};
+pub use statements::{
+    AssignNode, BlockNode, BranchNode, CreateNode, DeclareNode, DeleteNode, DestroyNode, ForNode,
+    InsertNode, NewNode, RhsNode, SetNode, StmtNode, WhileNode,
+};
+pub use types::{NamesNode, TypeNode};
+
+#[cfg(test)]
+mod tests;
