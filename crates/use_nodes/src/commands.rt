@@ -6,7 +6,7 @@ use use_syntax::Rule;
 use use_text::TokenKind;
 
 /// `enter := 'openter' expr NAME args`
-#[derive(Drop)]
+#[derive(Debug, Drop)]
 pub struct EnterNode<'a> {
     pub receiver: NodeRef<'a>,
     pub operation: NodeRef<'a>,
@@ -30,7 +30,7 @@ impl<'a> EnterNode<'a> {
 }
 
 /// `exit := 'opexit' [ expr ]`
-#[derive(Drop)]
+#[derive(Debug, Drop)]
 pub struct ExitNode<'a> {
     pub value: Option<NodeRef<'a>>,
 }
@@ -50,7 +50,7 @@ impl<'a> ExitNode<'a> {
 }
 
 /// `execute := '!' ( enter | exit | block )`
-#[derive(Drop)]
+#[derive(Debug, Drop)]
 pub struct ExecuteNode<'a> {
     pub form: NodeRef<'a>,
 }
@@ -70,7 +70,7 @@ impl<'a> ExecuteNode<'a> {
 }
 
 /// `query := '?' [ '?' ] expr`
-#[derive(Drop)]
+#[derive(Debug, Drop)]
 pub struct QueryNode<'a> {
     /// The second `?`: the parts of the expression are asked for too.
     pub explained: Option<NodeRef<'a>>,
@@ -93,7 +93,7 @@ impl<'a> QueryNode<'a> {
 }
 
 /// `check := 'check' [ '-' NAME ]`
-#[derive(Drop)]
+#[derive(Debug, Drop)]
 pub struct CheckNode<'a> {
     pub option: Option<NodeRef<'a>>,
 }
@@ -113,7 +113,7 @@ impl<'a> CheckNode<'a> {
 }
 
 /// `info := 'info' ( 'class' NAME | 'model' | NAME )`
-#[derive(Drop)]
+#[derive(Debug, Drop)]
 pub struct InfoNode<'a> {
     /// The word `class` or `model`, or a name.
     pub subject: NodeRef<'a>,
@@ -136,7 +136,7 @@ impl<'a> InfoNode<'a> {
 }
 
 /// `view := 'view' ( INT | NAME INT )`
-#[derive(Drop)]
+#[derive(Debug, Drop)]
 pub struct ViewNode<'a> {
     /// The number, or a name.
     pub subject: NodeRef<'a>,
@@ -159,7 +159,7 @@ impl<'a> ViewNode<'a> {
 }
 
 /// `command := [ execute | enter | exit | query | check | info | view | 'undo' | 'redo' | 'reset' | 'quit' | 'exit' ] End`
-#[derive(Drop)]
+#[derive(Debug, Drop)]
 pub struct CommandNode<'a> {
     pub form: Option<NodeRef<'a>>,
 }

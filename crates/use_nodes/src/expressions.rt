@@ -6,7 +6,7 @@ use use_syntax::Rule;
 use use_text::TokenKind;
 
 /// `item := expr [ ':' type [ '=' expr ] ]`
-#[derive(Drop)]
+#[derive(Debug, Drop)]
 pub struct ItemNode<'a> {
     pub expression: NodeRef<'a>,
     pub of_type: Option<NodeRef<'a>>,
@@ -30,7 +30,7 @@ impl<'a> ItemNode<'a> {
 }
 
 /// `args := '(' [ item { ',' item } [ ';' item ] [ '|' expr ] ] ')'`
-#[derive(Drop)]
+#[derive(Debug, Drop)]
 pub struct ArgsNode<'a> {
     /// All items, the accumulator too.
     pub items: Parts<'a>,
@@ -55,7 +55,7 @@ impl<'a> ArgsNode<'a> {
 }
 
 /// `part := expr [ '..' expr ]`
-#[derive(Drop)]
+#[derive(Debug, Drop)]
 pub struct PartNode<'a> {
     pub first: NodeRef<'a>,
     pub last: Option<NodeRef<'a>>,
@@ -77,7 +77,7 @@ impl<'a> PartNode<'a> {
 }
 
 /// `collection := kind '{' [ part { ',' part } ] '}'`
-#[derive(Drop)]
+#[derive(Debug, Drop)]
 pub struct CollectionNode<'a> {
     pub kind: NodeRef<'a>,
     pub parts: Parts<'a>,
@@ -99,7 +99,7 @@ impl<'a> CollectionNode<'a> {
 }
 
 /// `named := NAME [ '::' NAME ] [ '@pre' ] [ args ]`
-#[derive(Drop)]
+#[derive(Debug, Drop)]
 pub struct NamedNode<'a> {
     pub name: NodeRef<'a>,
     /// The literal of the enumeration that the name stands for.
@@ -127,7 +127,7 @@ impl<'a> NamedNode<'a> {
 }
 
 /// `literal := '#' NAME`
-#[derive(Drop)]
+#[derive(Debug, Drop)]
 pub struct LiteralNode<'a> {
     pub name: NodeRef<'a>,
 }
@@ -147,7 +147,7 @@ impl<'a> LiteralNode<'a> {
 }
 
 /// `group := '(' expr ')'`
-#[derive(Drop)]
+#[derive(Debug, Drop)]
 pub struct GroupNode<'a> {
     pub expression: NodeRef<'a>,
 }
@@ -167,7 +167,7 @@ impl<'a> GroupNode<'a> {
 }
 
 /// `choice := 'if' expr 'then' expr 'else' expr 'endif'`
-#[derive(Drop)]
+#[derive(Debug, Drop)]
 pub struct ChoiceNode<'a> {
     pub condition: NodeRef<'a>,
     pub consequence: NodeRef<'a>,
@@ -191,7 +191,7 @@ impl<'a> ChoiceNode<'a> {
 }
 
 /// `primary := INT | STRING | 'true' | 'false' | 'null' | 'Undefined' | 'invalid' | literal | collection | named | group | choice`
-#[derive(Drop)]
+#[derive(Debug, Drop)]
 pub struct PrimaryNode<'a> {
     pub form: NodeRef<'a>,
 }
@@ -211,7 +211,7 @@ impl<'a> PrimaryNode<'a> {
 }
 
 /// `dot := '.' ( NAME [ '@pre' ] [ args ] | ( 'div' | 'mod' ) args )`
-#[derive(Drop)]
+#[derive(Debug, Drop)]
 pub struct DotNode<'a> {
     /// A name, or the word `div` or `mod`.
     pub name: NodeRef<'a>,
@@ -237,7 +237,7 @@ impl<'a> DotNode<'a> {
 }
 
 /// `arrow := '->' NAME [ args ]`
-#[derive(Drop)]
+#[derive(Debug, Drop)]
 pub struct ArrowNode<'a> {
     pub name: NodeRef<'a>,
     pub arguments: Option<NodeRef<'a>>,
@@ -259,7 +259,7 @@ impl<'a> ArrowNode<'a> {
 }
 
 /// `postfix := primary { dot | arrow }`
-#[derive(Drop)]
+#[derive(Debug, Drop)]
 pub struct PostfixNode<'a> {
     pub source: NodeRef<'a>,
     /// What follows the source: each is a dot or an arrow.
@@ -282,7 +282,7 @@ impl<'a> PostfixNode<'a> {
 }
 
 /// `bind := NAME [ ':' type ] '=' expr`
-#[derive(Drop)]
+#[derive(Debug, Drop)]
 pub struct BindNode<'a> {
     pub name: NodeRef<'a>,
     pub of_type: Option<NodeRef<'a>>,
@@ -306,7 +306,7 @@ impl<'a> BindNode<'a> {
 }
 
 /// `let := 'let' bind { ',' bind } 'in' expr`
-#[derive(Drop)]
+#[derive(Debug, Drop)]
 pub struct LetNode<'a> {
     pub binds: Parts<'a>,
     pub body: NodeRef<'a>,
@@ -328,7 +328,7 @@ impl<'a> LetNode<'a> {
 }
 
 /// `unary := ( 'not' | '-' ) unary | let | postfix`
-#[derive(Drop)]
+#[derive(Debug, Drop)]
 pub struct UnaryNode<'a> {
     pub operator: Option<NodeRef<'a>>,
     pub operand: NodeRef<'a>,
@@ -350,7 +350,7 @@ impl<'a> UnaryNode<'a> {
 }
 
 /// A row of operands of one rule with operators between them, which group from the left.
-#[derive(Drop)]
+#[derive(Debug, Drop)]
 pub struct ChainNode<'a> {
     pub operands: Parts<'a>,
     pub operators: Parts<'a>,

@@ -6,6 +6,7 @@ mod expressions;
 mod models;
 mod node;
 mod parts;
+mod shown;
 mod statements;
 mod types;
 

@@ -6,7 +6,7 @@ use use_syntax::Rule;
 use use_text::TokenKind;
 
 /// `enum := 'enum' NAME '{' names '}' [ ';' ]`
-#[derive(Drop)]
+#[derive(Debug, Drop)]
 pub struct EnumNode<'a> {
     pub name: NodeRef<'a>,
     pub literals: NodeRef<'a>,
@@ -28,7 +28,7 @@ impl<'a> EnumNode<'a> {
 }
 
 /// `param := NAME ':' type`
-#[derive(Drop)]
+#[derive(Debug, Drop)]
 pub struct ParamNode<'a> {
     pub name: NodeRef<'a>,
     pub of_type: NodeRef<'a>,
@@ -50,7 +50,7 @@ impl<'a> ParamNode<'a> {
 }
 
 /// `params := NAME ':' type { ',' NAME ':' type }`
-#[derive(Drop)]
+#[derive(Debug, Drop)]
 pub struct ParamsNode<'a> {
     pub parameters: Parts<'a>,
 }
@@ -70,7 +70,7 @@ impl<'a> ParamsNode<'a> {
 }
 
 /// `head := NAME '(' [ params ] ')' [ ':' type ]`
-#[derive(Drop)]
+#[derive(Debug, Drop)]
 pub struct HeadNode<'a> {
     pub name: NodeRef<'a>,
     pub parameters: Option<NodeRef<'a>>,
@@ -94,7 +94,7 @@ impl<'a> HeadNode<'a> {
 }
 
 /// `cond := ( 'pre' | 'post' ) [ NAME ] ':' expr`
-#[derive(Drop)]
+#[derive(Debug, Drop)]
 pub struct CondNode<'a> {
     pub kind: NodeRef<'a>,
     pub name: Option<NodeRef<'a>>,
@@ -118,7 +118,7 @@ impl<'a> CondNode<'a> {
 }
 
 /// `inv := 'inv' [ NAME ] ':' expr`
-#[derive(Drop)]
+#[derive(Debug, Drop)]
 pub struct InvNode<'a> {
     pub name: Option<NodeRef<'a>>,
     pub condition: NodeRef<'a>,
@@ -140,7 +140,7 @@ impl<'a> InvNode<'a> {
 }
 
 /// `oper := head [ '=' expr | 'begin' block 'end' ] [ ';' ] { cond }`
-#[derive(Drop)]
+#[derive(Debug, Drop)]
 pub struct OperNode<'a> {
     pub head: NodeRef<'a>,
     pub query: Option<NodeRef<'a>>,
@@ -166,7 +166,7 @@ impl<'a> OperNode<'a> {
 }
 
 /// `attribute := NAME ':' type [ '=' expr ] [ ';' ]`
-#[derive(Drop)]
+#[derive(Debug, Drop)]
 pub struct AttributeNode<'a> {
     pub name: NodeRef<'a>,
     pub of_type: NodeRef<'a>,
@@ -190,7 +190,7 @@ impl<'a> AttributeNode<'a> {
 }
 
 /// `parents := '<' names`
-#[derive(Drop)]
+#[derive(Debug, Drop)]
 pub struct ParentsNode<'a> {
     pub names: NodeRef<'a>,
 }
@@ -210,7 +210,7 @@ impl<'a> ParentsNode<'a> {
 }
 
 /// `class := [ 'abstract' ] 'class' NAME [ parents ] [ 'attributes' { attribute } ] [ 'operations' { oper } ] [ 'constraints' { inv } ] 'end'`
-#[derive(Drop)]
+#[derive(Debug, Drop)]
 pub struct ClassNode<'a> {
     pub is_abstract: bool,
     pub name: NodeRef<'a>,
@@ -240,7 +240,7 @@ impl<'a> ClassNode<'a> {
 }
 
 /// `mult := '*' | INT [ '..' ( INT | '*' ) ]`
-#[derive(Drop)]
+#[derive(Debug, Drop)]
 pub struct MultNode<'a> {
     pub low: NodeRef<'a>,
     pub high: Option<NodeRef<'a>>,
@@ -262,7 +262,7 @@ impl<'a> MultNode<'a> {
 }
 
 /// `assocend := NAME '[' mult { ',' mult } ']' [ 'role' NAME ] [ 'ordered' ] [ ';' ]`
-#[derive(Drop)]
+#[derive(Debug, Drop)]
 pub struct AssocEndNode<'a> {
     pub class: NodeRef<'a>,
     pub multiplicities: Parts<'a>,
@@ -288,7 +288,7 @@ impl<'a> AssocEndNode<'a> {
 }
 
 /// `assoc := ( 'association' | 'aggregation' | 'composition' ) NAME 'between' assocend assocend 'end'`
-#[derive(Drop)]
+#[derive(Debug, Drop)]
 pub struct AssocNode<'a> {
     pub kind: NodeRef<'a>,
     pub name: NodeRef<'a>,
@@ -314,7 +314,7 @@ impl<'a> AssocNode<'a> {
 }
 
 /// `context := 'context' NAME ( ':' NAME inv { inv } | '::' head cond { cond } | inv { inv } )`
-#[derive(Drop)]
+#[derive(Debug, Drop)]
 pub struct ContextNode<'a> {
     /// The class, or the variable in front of it.
     pub name: NodeRef<'a>,
@@ -345,7 +345,7 @@ impl<'a> ContextNode<'a> {
 }
 
 /// `constraints := 'constraints' { context }`
-#[derive(Drop)]
+#[derive(Debug, Drop)]
 pub struct ConstraintsNode<'a> {
     pub contexts: Parts<'a>,
 }
@@ -365,7 +365,7 @@ impl<'a> ConstraintsNode<'a> {
 }
 
 /// `file := 'model' NAME { enum | class | assoc | constraints } End`
-#[derive(Drop)]
+#[derive(Debug, Drop)]
 pub struct FileNode<'a> {
     pub name: NodeRef<'a>,
     pub declarations: Parts<'a>,

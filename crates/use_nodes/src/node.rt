@@ -176,4 +176,22 @@ impl<'a> NodeRef<'a> {
             [first, rest @ ..] => self.alone(*first)?.through(rest),
         }
     }
+
+    /// The place of the first token of it.
+    pub(crate) fn first_token(&self) -> Option<u32> {
+        let mut number = self.number;
+        'down: while let Some(first) = self.tree.child(number, 0) {
+            number = first;
+        }
+        self.tree.token(number)
+    }
+
+    /// The place of the last token of it.
+    pub(crate) fn last_token(&self) -> Option<u32> {
+        let mut number = self.number;
+        'down: while let Some(count) = self.tree.children(number).checked_sub(1) {
+            number = self.tree.child(number, count)?;
+        }
+        self.tree.token(number)
+    }
 }

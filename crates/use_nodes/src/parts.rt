@@ -66,6 +66,19 @@ impl<'a> Iterator for Parts<'a> {
     }
 }
 
+impl<'a> Parts<'a> {
+    /// The same nodes.
+    pub fn again(&self) -> Parts<'a>
+        ensures { result ≡ self.now }
+    {
+        Parts {
+            node: self.node.again(),
+            at: self.at,
+            select: self.select,
+        }
+    }
+}
+
 fn takes(select: Select, node: &NodeRef<'_>) -> bool
     ensures { result ≡ selects select node.now }
 {

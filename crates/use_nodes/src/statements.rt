@@ -6,7 +6,7 @@ use use_syntax::Rule;
 use use_text::TokenKind;
 
 /// `block := [ stmt ] { ';' [ stmt ] }`
-#[derive(Drop)]
+#[derive(Debug, Drop)]
 pub struct BlockNode<'a> {
     pub statements: Parts<'a>,
 }
@@ -26,7 +26,7 @@ impl<'a> BlockNode<'a> {
 }
 
 /// `new := 'new' NAME [ '(' [ expr ] ')' ]`
-#[derive(Drop)]
+#[derive(Debug, Drop)]
 pub struct NewNode<'a> {
     pub class: NodeRef<'a>,
     pub name: Option<NodeRef<'a>>,
@@ -48,7 +48,7 @@ impl<'a> NewNode<'a> {
 }
 
 /// `rhs := new | expr`
-#[derive(Drop)]
+#[derive(Debug, Drop)]
 pub struct RhsNode<'a> {
     pub form: NodeRef<'a>,
 }
@@ -68,7 +68,7 @@ impl<'a> RhsNode<'a> {
 }
 
 /// `create := 'create' names ':' NAME`
-#[derive(Drop)]
+#[derive(Debug, Drop)]
 pub struct CreateNode<'a> {
     pub names: NodeRef<'a>,
     pub class: NodeRef<'a>,
@@ -90,7 +90,7 @@ impl<'a> CreateNode<'a> {
 }
 
 /// `set := 'set' expr ':=' rhs`
-#[derive(Drop)]
+#[derive(Debug, Drop)]
 pub struct SetNode<'a> {
     pub target: NodeRef<'a>,
     pub value: NodeRef<'a>,
@@ -112,7 +112,7 @@ impl<'a> SetNode<'a> {
 }
 
 /// `destroy := 'destroy' expr { ',' expr }`
-#[derive(Drop)]
+#[derive(Debug, Drop)]
 pub struct DestroyNode<'a> {
     pub objects: Parts<'a>,
 }
@@ -132,7 +132,7 @@ impl<'a> DestroyNode<'a> {
 }
 
 /// `insert := 'insert' '(' expr ',' expr ')' 'into' NAME`
-#[derive(Drop)]
+#[derive(Debug, Drop)]
 pub struct InsertNode<'a> {
     pub first: NodeRef<'a>,
     pub second: NodeRef<'a>,
@@ -156,7 +156,7 @@ impl<'a> InsertNode<'a> {
 }
 
 /// `delete := 'delete' '(' expr ',' expr ')' 'from' NAME`
-#[derive(Drop)]
+#[derive(Debug, Drop)]
 pub struct DeleteNode<'a> {
     pub first: NodeRef<'a>,
     pub second: NodeRef<'a>,
@@ -180,7 +180,7 @@ impl<'a> DeleteNode<'a> {
 }
 
 /// `declare := 'declare' names ':' type`
-#[derive(Drop)]
+#[derive(Debug, Drop)]
 pub struct DeclareNode<'a> {
     pub names: NodeRef<'a>,
     pub of_type: NodeRef<'a>,
@@ -202,7 +202,7 @@ impl<'a> DeclareNode<'a> {
 }
 
 /// `branch := 'if' expr 'then' block [ 'else' block ] 'end'`
-#[derive(Drop)]
+#[derive(Debug, Drop)]
 pub struct BranchNode<'a> {
     pub condition: NodeRef<'a>,
     pub consequence: NodeRef<'a>,
@@ -226,7 +226,7 @@ impl<'a> BranchNode<'a> {
 }
 
 /// `for := 'for' NAME 'in' expr 'do' block 'end'`
-#[derive(Drop)]
+#[derive(Debug, Drop)]
 pub struct ForNode<'a> {
     pub variable: NodeRef<'a>,
     pub source: NodeRef<'a>,
@@ -250,7 +250,7 @@ impl<'a> ForNode<'a> {
 }
 
 /// `while := 'while' expr 'do' block 'end'`
-#[derive(Drop)]
+#[derive(Debug, Drop)]
 pub struct WhileNode<'a> {
     pub condition: NodeRef<'a>,
     pub body: NodeRef<'a>,
@@ -272,7 +272,7 @@ impl<'a> WhileNode<'a> {
 }
 
 /// `assign := expr [ ':=' rhs ]`
-#[derive(Drop)]
+#[derive(Debug, Drop)]
 pub struct AssignNode<'a> {
     pub target: NodeRef<'a>,
     pub value: Option<NodeRef<'a>>,
@@ -294,7 +294,7 @@ impl<'a> AssignNode<'a> {
 }
 
 /// `stmt := create | set | new | destroy | insert | delete | declare | branch | for | while | assign`
-#[derive(Drop)]
+#[derive(Debug, Drop)]
 pub struct StmtNode<'a> {
     pub form: NodeRef<'a>,
 }

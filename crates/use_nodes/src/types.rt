@@ -6,7 +6,7 @@ use use_syntax::Rule;
 use use_text::TokenKind;
 
 /// `names := NAME { ',' NAME }`
-#[derive(Drop)]
+#[derive(Debug, Drop)]
 pub struct NamesNode<'a> {
     pub names: Parts<'a>,
 }
@@ -26,7 +26,7 @@ impl<'a> NamesNode<'a> {
 }
 
 /// `type := NAME | kind '(' type ')'`
-#[derive(Drop)]
+#[derive(Debug, Drop)]
 pub struct TypeNode<'a> {
     /// A name, or the kind of a collection.
     pub word: NodeRef<'a>,
