@@ -16,11 +16,11 @@ abbrev pub both : Bool → Bool → Bool
 both true b = b
 both false b = false
 
-both_left : (a b : Bool) → both a b ≡ true → a ≡ true
+pub both_left : (a b : Bool) → both a b ≡ true → a ≡ true
 both_left true b e = refl
 both_left false b e = e
 
-both_right : (a b : Bool) → both a b ≡ true → b ≡ true
+pub both_right : (a b : Bool) → both a b ≡ true → b ≡ true
 both_right true b e = e
 both_right false b e = absurd (cc)
 
@@ -29,7 +29,7 @@ abbrev pub every : (ℕ → Bool) → List ℕ → Bool
 every test [] = true
 every test (q ∷ qs) = both (test q) (every test qs)
 
-every_in : (test : ℕ → Bool) (qs : List ℕ) → every test qs ≡ true → (q : ℕ) → IsIn q qs → test q ≡ true
+pub every_in : (test : ℕ → Bool) (qs : List ℕ) → every test qs ≡ true → (q : ℕ) → IsIn q qs → test q ≡ true
 every_in test [] e q i = absurd i
 every_in test (x ∷ xs) e q i = ⊎_elim (λ same. subst (λ (n : ℕ). test n ≡ true) (sym same) (both_left (test x) (every test xs) e)) (λ later. every_in test xs (both_right (test x) (every test xs) e) q later) i
 

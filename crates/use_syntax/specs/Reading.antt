@@ -1,5 +1,5 @@
 -- What a text is read as: a tree of its tokens, or a refusal.
-use Rattle.std.specs.Prelude.{◌≡◌, ⊤, ℕ, List, Option, Some, None, Result, Ok, Err, slice_get}
+use Rattle.std.specs.Prelude.{◌≡◌, ◌<◌, ⊤, ℕ, List, length, Option, Some, None, Result, Ok, Err, slice_get}
 use Rattle.use_text.specs.declared.code.Family.TheVariants.{S}
 use Rattle.use_text.specs.declared.place.Place.{Place}
 use Rattle.use_text.specs.declared.refusal.Refusal.{Refusal}
@@ -15,6 +15,7 @@ use Rattle.grammar_core.specs.Trees.{ParseTree}
 use Rattle.use_syntax.specs.declared.fault.SyntaxFault.{SyntaxFault}
 use Rattle.use_syntax.specs.declared.fault.SyntaxFault.TheVariants.{Memory, Refused}
 use Rattle.use_syntax.specs.declared.parsed.Parsed.{Parsed}
+use Rattle.use_syntax.specs.declared.rule.Rule.{Rule}
 use Rattle.use_syntax.specs.declared.rule.Rule.TheVariants as r
 use Rattle.use_syntax.specs.Language.{language}
 use Rattle.use_syntax.specs.Numbers.{number_of_rule}
@@ -63,3 +64,13 @@ abbrev pub Reads : Reading → List ℕ → Result Parsed SyntaxFault → Type 0
 Reads given text (Ok p) = (given ≡ parsed p.tokens (root_tree p.tree)) × (p.text ≡ text)
 Reads given text (Err Memory) = ⊤
 Reads given text (Err (Refused r)) = given ≡ refused r
+
+-- a refusal by the grammar stands at one of the tokens, so that its place is that token's
+abbrev pub StandsAtToken : List Token → Verdict → Type 0
+StandsAtToken ts (derived tree) = ⊤
+StandsAtToken ts (stuck at) = at < length ts
+StandsAtToken ts (deep at) = at < length ts
+
+-- whatever text is read as this rule
+abbrev pub RefusalsStandAtTokens : Rule → Type 0
+RefusalsStandAtTokens start = (first_line : ℕ) (text : List ℕ) (ts : List Token) → tokens first_line text ≡ Ok ts → StandsAtToken ts (verdict language (kinds ts) (number_of_rule start))

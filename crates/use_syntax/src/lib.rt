@@ -5,6 +5,7 @@ mod commands;
 mod expressions;
 mod fault;
 mod firsts;
+mod law;
 mod models;
 mod parsed;
 mod part;
@@ -17,6 +18,7 @@ mod table;
 mod types;
 
 pub use fault::SyntaxFault;
+pub use law::refusals_stand_at_tokens;
 pub use parsed::Parsed;
 pub use read::{read_command, read_model};
 pub use rule::Rule;
