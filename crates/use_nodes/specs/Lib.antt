@@ -5,3 +5,4 @@ pub mod ExpressionNodes
 pub mod StatementNodes
 pub mod CommandNodes
 pub mod ModelNodes
+pub mod Whole

@@ -3,6 +3,7 @@
 
 mod commands;
 mod expressions;
+mod law;
 mod models;
 mod node;
 mod parts;
@@ -17,6 +18,7 @@ pub use expressions::{
     ArgsNode, ArrowNode, BindNode, ChainNode, ChoiceNode, CollectionNode, DotNode, GroupNode,
     ItemNode, LetNode, LiteralNode, NamedNode, PartNode, PostfixNode, PrimaryNode, UnaryNode,
 };
+pub use law::trees_are_whole;
 pub use models::{
     AssocEndNode, AssocNode, AttributeNode, ClassNode, CondNode, ConstraintsNode, ContextNode,
     EnumNode, FileNode, HeadNode, InvNode, MultNode, OperNode, ParamNode, ParamsNode, ParentsNode,

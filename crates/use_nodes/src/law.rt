@@ -1,0 +1,16 @@
+ghost use Rattle.std.specs.Prelude.{List, ℕ};
+ghost use Rattle.grammar_core.specs.Derives.{Derives};
+ghost use Rattle.grammar_core.specs.Trees.{ParseTree};
+ghost use Rattle.use_syntax.specs.declared.rule.Rule.{Rule};
+ghost use Rattle.use_syntax.specs.Language.{language};
+ghost use Rattle.use_syntax.specs.Numbers.{number_of_rule};
+ghost use Rattle.use_syntax.specs.Reading.{read_command, read_model};
+ghost use Rattle.use_nodes.specs.Whole.{IsWhole, ReadIsWhole};
+
+/// A law: no node of a tree that the grammar derives, at any depth, lacks a part that its rule
+/// requires. So in what a text is read as, each node has its parts.
+pub fn trees_are_whole()
+    ensures derived { (ks : List ℕ) (start : Rule) (tree : ParseTree) → Derives language ks (number_of_rule start) tree → IsWhole tree }
+    ensures model { (text : List ℕ) → ReadIsWhole (read_model text) }
+    ensures command { (first_line : ℕ) (text : List ℕ) → ReadIsWhole (read_command first_line text) }
+{}
