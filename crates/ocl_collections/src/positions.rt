@@ -4,10 +4,10 @@ ghost use Rattle.ocl_values.specs.declared.value.Kind.TheVariants.{OrderedSet};
 ghost use Rattle.ocl_values.specs.declared.value.Value.TheVariants.{Invalid};
 ghost use Rattle.ocl_collections.specs.Positions.{append, at, first, has_places, index_of, insert_at, last, part, place_from, prepend, put, reversed, sub_ordered_set, sub_sequence};
 
-use crate::made::{copied, made, made_of};
+use crate::made::{made, made_of};
 use ocl_values::{Kind, Value};
 use std::alloc::{AllocError, Global};
-use use_orders::{append_copies, contains_anywhere};
+use use_orders::{append_copies, contains_anywhere, copied};
 
 // Whether the elements of the kind have places.
 fn has_places(kind: Kind) -> bool
