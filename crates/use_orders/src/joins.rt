@@ -35,7 +35,7 @@ pub fn join<T: Ord + TryCopy + Drop>(alloc: Global, a: &[T], b: &[T]) -> Result<
     requires second { IsSorted T.cmp b.now }
     ensures { IfOk result (λ v. v.items ≡ bag_of T.cmp (a.now ++ b.now)) }
 {
-    let mut out = Vec::new(alloc);
+    let mut out = Vec::with_capacity(alloc, a.len())?;
     let mut i = 0;
     let mut j = 0;
     'join: while i < a.len() && j < b.len() {

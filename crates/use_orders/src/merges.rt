@@ -39,7 +39,7 @@ fn merge_one<T: Ord + TryCopy + Drop>(
 fn merge<T: Ord + TryCopy + Drop>(alloc: Global, a: &[T], b: &[T]) -> Result<Vec<T>, AllocError>
     ensures { IfOk result (λ v. v.items ≡ sorted_merge T.cmp true a.now b.now) }
 {
-    let mut out = Vec::new(alloc);
+    let mut out = Vec::with_capacity(alloc, a.len())?;
     let mut i = 0;
     let mut j = 0;
     'merge: while i < a.len() && j < b.len() {
