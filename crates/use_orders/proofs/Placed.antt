@@ -1,5 +1,5 @@
 -- An element put at its place in a list in order, and what ties with an element taken out of one.
-use Rattle.std.proofs.Common.{◌≡◌, ℕ, zero, suc, ◌+◌, ◌<◌, ◌≤◌, ◌++◌, ◌||◌, not, Bool, true, false, cond, List, [], ◌∷◌, take, drop, filter, get_or, length, count_by, refl, sym, ap, ap₂, ◌∙◌, subst, arith, IsSorted, Result, Ok, Err, is_ok, Ordering, Less, Equal, Greater, is_lt, is_eq, is_gt}
+use Rattle.std.proofs.Common.{◌≡◌, ℕ, zero, suc, ◌+◌, ◌<◌, ◌≤◌, ◌++◌, ◌||◌, not, Bool, true, false, cond, List, [], ◌∷◌, take, drop, get_or, length, count_by, refl, sym, ap, ap₂, ◌∙◌, subst, arith, IsSorted, Result, Ok, Err, is_ok, Ordering, Less, Greater, is_lt, is_eq, is_gt}
 use Rattle.std.specs.Ordering.{ordering_reverse, is_le, match_ordering}
 use Rattle.std.specs.Cmp.{IsTotalOrder}
 use Rattle.std.specs.List.{AllByRecursion}

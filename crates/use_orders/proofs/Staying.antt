@@ -1,5 +1,5 @@
 -- What stays as its kind keeps it when elements go.
-use Rattle.std.proofs.Common.{◌≡◌, ℕ, ◌+◌, ◌<◌, ◌≤◌, ◌++◌, ◌||◌, ◌&&◌, Bool, true, false, cond, fold, filter, List, [], ◌∷◌, length, refl, sym, ap, ap₂, ◌∙◌, subst, true≢false, arith, append_assoc, append-nil, length-append, IsSorted, Ordering, is_eq, is_gt}
+use Rattle.std.proofs.Common.{◌≡◌, ◌+◌, ◌≤◌, ◌++◌, ◌||◌, ◌&&◌, Bool, true, false, cond, fold, filter, List, [], ◌∷◌, length, refl, sym, ap, ap₂, ◌∙◌, true≢false, arith, append_assoc, append-nil, length-append, IsSorted, Ordering, is_eq, is_gt}
 use Rattle.std.specs.Cmp.{IsTotalOrder}
 use Rattle.std.specs.List.{AllByRecursion}
 use Rattle.std.specs.FinMap.{IsAntisymmetric}

@@ -6,8 +6,8 @@ use crate::searches::{below, up_to};
 use crate::{TryCopy, append_copies, copied};
 use std::alloc::{AllocError, Global};
 
-// Copies of the elements, with a copy of `x` behind the first `n`.
-fn with_behind<T: TryCopy + Drop>(
+/// Copies of the elements, with a copy of `x` behind the first `n`.
+pub fn with_behind<T: TryCopy + Drop>(
     alloc: Global,
     items: &[T],
     n: usize,

@@ -36,6 +36,7 @@ enum ListCall {
     KeepFirst,
     Copied,
     AppendCopies,
+    WithBehind,
 }
 
 fn of_list(alloc: Global, call: ListCall, text: &str) -> Result<Vec<u8>, AllocError> {
@@ -50,6 +51,7 @@ fn of_list(alloc: Global, call: ListCall, text: &str) -> Result<Vec<u8>, AllocEr
             append_copies(alloc, items.as_slice(), items.len().min(1), &mut out)?;
             Ok(out)
         }
+        ListCall::WithBehind => with_behind(alloc, items.as_slice(), items.len().min(1), &b'9'),
     }
 }
 
@@ -62,6 +64,7 @@ fn whole_lists(rt: HostRuntime) -> Result<(), Fail> {
         (ListCall::KeepFirst, "3121", "312"),
         (ListCall::Copied, "3121", "3121"),
         (ListCall::AppendCopies, "3121", "0121"),
+        (ListCall::WithBehind, "3121", "39121"),
         (ListCall::Bag, "", ""),
         (ListCall::Set, "", ""),
         (ListCall::KeepFirst, "", ""),
