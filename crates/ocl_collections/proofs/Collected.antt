@@ -1,8 +1,8 @@
 -- A collection that is made of elements as its kind keeps them is what `canon` makes.
-use Rattle.std.proofs.Common.{◌≡◌, ℕ, ◌≤◌, nat_le, max, ◌||◌, Bool, true, false, cond, Option, Some, None, ◌⊎◌, inl, inr, ⊎_elim, true≢false, List, [], ◌∷◌, ◌++◌, filter, refl, sym, ap, ap₂, ◌∙◌, subst, arith, IsSorted}
+use Rattle.std.proofs.Common.{◌≡◌, ◌≤◌, nat_le, ◌||◌, Bool, true, false, cond, Option, Some, ◌⊎◌, inl, inr, ⊎_elim, true≢false, List, [], ◌∷◌, ◌++◌, filter, refl, sym, ap, ◌∙◌, arith, IsSorted}
 use Rattle.std.specs.List.{AllByRecursion}
-use Rattle.use_orders.specs.Canon.{add_new, set_of, bag_of, has, common_of, within, without}
-use Rattle.use_orders.proofs.Staying.{all_filter, all_common, firsts_filter, firsts_push, bag_filter, bag_common, set_within}
+use Rattle.use_orders.specs.Canon.{set_of, has, common_of, within, without}
+use Rattle.use_orders.proofs.Staying.{all_filter, all_common, firsts_filter, bag_filter, bag_common, set_within}
 use Rattle.use_orders.proofs.Merged.{set_filter}
 use Rattle.ocl_values.specs.Order.{value_cmp}
 use Rattle.ocl_values.specs.Logic.{is_invalid}
