@@ -70,7 +70,7 @@ parts_well kind vs l all is =
 pub well_Invalid : IsWellMade Invalid
 well_Invalid = record { tidy = tt; levels = omega arith }
 
-low_from : (n : ℕ) → nat_le 256 n ≡ false → n ≤ 255
+pub low_from : (n : ℕ) → nat_le 256 n ≡ false → n ≤ 255
 low_from n e = grind (arith, e)
 
 -- a collection of well-made values, as `canon` makes it

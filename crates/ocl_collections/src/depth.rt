@@ -5,7 +5,7 @@ use ocl_values::Value;
 
 // How deep collections nest in a value, up to 257.
 #[cycle(levels)]
-fn levels(v: &Value) -> u32
+pub(crate) fn levels(v: &Value) -> u32
     ensures { result ≡ min (levels_of v.now) 257 }
 {
     match v {

@@ -1,12 +1,14 @@
 ghost use Rattle.std.specs.Prelude.{◌≡◌, All, IfOk};
 ghost use Rattle.ocl_values.specs.Logic.{is_invalid as invalid};
 ghost use Rattle.ocl_values.specs.Shape.{canon, canonical, IsWellMade, some_invalid};
+ghost use Rattle.ocl_values.specs.declared.value.Value.TheVariants.{Coll};
+ghost use Rattle.ocl_collections.specs.Adding.{is_unfit};
 
-use crate::depth::most;
+use crate::depth::{levels, most};
 use ocl_values::{Kind, Value};
 use std::alloc::{AllocError, Global};
 use use_lists::Items;
-use use_orders::append_copies;
+use use_orders::copied;
 
 fn is_invalid(v: &Value) -> bool
     ensures { result ≡ invalid v.now }
@@ -23,6 +25,13 @@ pub(crate) fn any_invalid(all: &[Value]) -> bool
         }
     }
     false
+}
+
+// Whether no collection holds x.
+pub(crate) fn is_unfit(x: &Value) -> bool
+    ensures { result ≡ is_unfit x.now }
+{
+    is_invalid(x) || levels(x) >= 256
 }
 
 // The elements as the kind keeps them.
@@ -44,16 +53,14 @@ pub(crate) fn made(alloc: Global, kind: Kind, items: Vec<Value>) -> Result<Value
     if any_invalid(items.as_slice()) || most(items.as_slice()) >= 256 {
         return Ok(Value::Invalid);
     }
-    Ok(Value::Coll(kind, Items::from_vec(kept(alloc, kind, items)?)))
+    Ok(collected(kind, kept(alloc, kind, items)?))
 }
 
-// Copies of the elements.
-pub(crate) fn copied(alloc: Global, items: &[Value]) -> Result<Vec<Value>, AllocError>
-    ensures { IfOk result (λ v. v.items ≡ items.now) }
+// The collection of elements that stand as the kind keeps them and that it may hold.
+pub(crate) fn collected(kind: Kind, items: Vec<Value>) -> Value
+    ensures { result ≡ Coll kind items.items }
 {
-    let mut out = Vec::new(alloc);
-    append_copies(alloc, items, 0, &mut out)?;
-    Ok(out)
+    Value::Coll(kind, Items::from_vec(items))
 }
 
 // The collection of copies of the elements.

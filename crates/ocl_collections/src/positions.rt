@@ -4,10 +4,10 @@ ghost use Rattle.ocl_values.specs.declared.value.Kind.TheVariants.{OrderedSet};
 ghost use Rattle.ocl_values.specs.declared.value.Value.TheVariants.{Invalid};
 ghost use Rattle.ocl_collections.specs.Positions.{append, at, first, has_places, index_of, insert_at, last, part, place_from, prepend, put, reversed, sub_ordered_set, sub_sequence};
 
-use crate::made::{copied, made, made_of};
+use crate::made::{made, made_of};
 use ocl_values::{Kind, Value};
 use std::alloc::{AllocError, Global};
-use use_orders::{append_copies, contains_anywhere};
+use use_orders::{contains_anywhere, copied, with_behind};
 
 // Whether the elements of the kind have places.
 fn has_places(kind: Kind) -> bool
@@ -17,17 +17,6 @@ fn has_places(kind: Kind) -> bool
         Kind::OrderedSet | Kind::Sequence => true,
         Kind::Set | Kind::Bag => false,
     }
-}
-
-// The elements with x behind the first n.
-fn inserted(alloc: Global, n: usize, items: &[Value], x: &Value) -> Result<Vec<Value>, AllocError>
-    requires { n ≤ length items.now }
-    ensures { IfOk result (λ v. v.items ≡ take n items.now ++ x.now ∷ drop n items.now) }
-{
-    let mut all = copied(alloc, &items[..n])?;
-    all.push(x.try_copy(alloc)?)?;
-    append_copies(alloc, items, n, &mut all)?;
-    Ok(all)
 }
 
 // The elements with x behind the first n, unless they have x.
@@ -43,7 +32,7 @@ fn inserted_once(
     if contains_anywhere(items, x) {
         return copied(alloc, items);
     }
-    inserted(alloc, n, items, x)
+    with_behind(alloc, items, n, x)
 }
 
 // The collection with x behind the first n.
@@ -53,7 +42,7 @@ fn put(alloc: Global, kind: Kind, n: usize, items: &[Value], x: &Value) -> Resul
 {
     let all = match kind {
         Kind::OrderedSet => inserted_once(alloc, n, items, x)?,
-        _ => inserted(alloc, n, items, x)?,
+        _ => with_behind(alloc, items, n, x)?,
     };
     made(alloc, kind, all)
 }

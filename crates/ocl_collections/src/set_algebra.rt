@@ -1,15 +1,12 @@
-ghost use Rattle.std.specs.Prelude.{◌≡◌, IfOk, IsSorted};
-ghost use Rattle.ocl_values.specs.Shape.{canon, IsWellMade};
-ghost use Rattle.ocl_values.specs.Order.{value_cmp};
-ghost use Rattle.ocl_values.specs.declared.value.Kind.TheVariants.{Set};
+ghost use Rattle.std.specs.Prelude.{◌≡◌, ◌++◌, IfOk, Some};
+ghost use Rattle.ocl_values.specs.Shape.{canonical, IsWellMade};
 ghost use Rattle.ocl_values.specs.declared.value.Value.TheVariants.{Coll};
-ghost use Rattle.use_orders.specs.Canon.{within};
 ghost use Rattle.ocl_collections.specs.SetAlgebra.{difference, intersection, symmetric_difference, union, union_kind};
 
-use crate::made::{copied, made};
+use crate::made::collected;
 use ocl_values::{Kind, Value};
 use std::alloc::{AllocError, Global};
-use use_orders::append_copies;
+use use_orders::{append_copies, common, copied, join, keep_first, symmetric, within, without};
 
 // The kind of a union.
 fn union_kind(kind: Kind, other: Kind) -> Option<Kind>
@@ -24,6 +21,37 @@ fn union_kind(kind: Kind, other: Kind) -> Option<Kind>
     }
 }
 
+// The elements of two lists, one behind the other.
+fn behind(alloc: Global, items: &[Value], others: &[Value]) -> Result<Vec<Value>, AllocError>
+    ensures { IfOk result (λ v. v.items ≡ items.now ++ others.now) }
+{
+    let mut all = copied(alloc, items)?;
+    append_copies(alloc, others, 0, &mut all)?;
+    Ok(all)
+}
+
+// The elements of two collections, as the kind of their union keeps them.
+fn united(
+    alloc: Global,
+    joined: Kind,
+    kind: Kind,
+    items: &[Value],
+    other: Kind,
+    others: &[Value],
+) -> Result<Vec<Value>, AllocError>
+    requires both { union_kind kind other ≡ Some joined }
+    requires first { IsWellMade (Coll kind items.now) }
+    requires second { IsWellMade (Coll other others.now) }
+    ensures { IfOk result (λ v. v.items ≡ canonical joined (items.now ++ others.now)) }
+{
+    match joined {
+        Kind::Set => use_orders::union(alloc, items, others),
+        Kind::OrderedSet => keep_first(alloc, behind(alloc, items, others)?),
+        Kind::Bag => join(alloc, items, others),
+        Kind::Sequence => behind(alloc, items, others),
+    }
+}
+
 pub(crate) fn union(
     alloc: Global,
     kind: Kind,
@@ -31,24 +59,17 @@ pub(crate) fn union(
     other: Kind,
     others: &[Value],
 ) -> Result<Value, AllocError>
+    requires first { IsWellMade (Coll kind items.now) }
+    requires second { IsWellMade (Coll other others.now) }
     ensures { IfOk result (λ v. v ≡ union kind items.now other others.now) }
 {
     match union_kind(kind, other) {
         Some(joined) => {
-            let mut all = copied(alloc, items)?;
-            append_copies(alloc, others, 0, &mut all)?;
-            made(alloc, joined, all)
+            let all = united(alloc, joined, kind, items, other, others)?;
+            Ok(collected(joined, all))
         }
         None => Ok(Value::Invalid),
     }
-}
-
-// The Set of the elements that are in the others, which are in order.
-fn shared(alloc: Global, items: &[Value], others: &[Value]) -> Result<Value, AllocError>
-    requires { IsSorted value_cmp others.now }
-    ensures { IfOk result (λ v. v ≡ canon Set (within value_cmp items.now others.now)) }
-{
-    made(alloc, Kind::Set, use_orders::within(alloc, items, others)?)
 }
 
 pub(crate) fn intersection(
@@ -63,10 +84,10 @@ pub(crate) fn intersection(
     ensures { IfOk result (λ v. v ≡ intersection kind items.now other others.now) }
 {
     match (kind, other) {
-        (Kind::Bag, Kind::Bag) => made(alloc, Kind::Bag, use_orders::common(alloc, items, others)?),
-        (Kind::Set, Kind::Set) => shared(alloc, items, others),
-        (Kind::Set, Kind::Bag) => shared(alloc, items, others),
-        (Kind::Bag, Kind::Set) => shared(alloc, items, others),
+        (Kind::Set, Kind::Set) => Ok(collected(Kind::Set, within(alloc, items, others)?)),
+        (Kind::Set, Kind::Bag) => Ok(collected(Kind::Set, within(alloc, items, others)?)),
+        (Kind::Bag, Kind::Set) => Ok(collected(Kind::Set, within(alloc, others, items)?)),
+        (Kind::Bag, Kind::Bag) => Ok(collected(Kind::Bag, common(alloc, items, others)?)),
         _ => Ok(Value::Invalid),
     }
 }
@@ -78,13 +99,12 @@ pub(crate) fn difference(
     other: Kind,
     others: &[Value],
 ) -> Result<Value, AllocError>
+    requires first { IsWellMade (Coll kind items.now) }
     requires second { IsWellMade (Coll other others.now) }
     ensures { IfOk result (λ v. v ≡ difference kind items.now other others.now) }
 {
     match (kind, other) {
-        (Kind::Set, Kind::Set) => {
-            made(alloc, Kind::Set, use_orders::without(alloc, items, others)?)
-        }
+        (Kind::Set, Kind::Set) => Ok(collected(Kind::Set, without(alloc, items, others)?)),
         _ => Ok(Value::Invalid),
     }
 }
@@ -101,12 +121,7 @@ pub(crate) fn symmetric_difference(
     ensures { IfOk result (λ v. v ≡ symmetric_difference kind items.now other others.now) }
 {
     match (kind, other) {
-        (Kind::Set, Kind::Set) => {
-            let mut all = use_orders::without(alloc, items, others)?;
-            let rest = use_orders::without(alloc, others, items)?;
-            append_copies(alloc, rest.as_slice(), 0, &mut all)?;
-            made(alloc, Kind::Set, all)
-        }
+        (Kind::Set, Kind::Set) => Ok(collected(Kind::Set, symmetric(alloc, items, others)?)),
         _ => Ok(Value::Invalid),
     }
 }

@@ -1,4 +1,4 @@
-ghost use Rattle.std.specs.Prelude.{◌≡◌, All, IfOk, OnOk};
+ghost use Rattle.std.specs.Prelude.{◌≡◌, All, IfOk};
 ghost use Rattle.ocl_values.specs.Shape.{IsWellMade};
 
 use super::*;
@@ -25,56 +25,86 @@ impl Names for Nobody {
     }
 }
 
-/// An argument as the tables below write it.
+/// An argument as the tables below write it, a collection by its elements in letters.
 #[derive(Clone, Copy, Debug)]
 enum Arg {
-    Absent,
     Null,
     Invalid,
     Int(i128),
-    Coll(Kind, &'static str),
+    Set(&'static str),
+    OrderedSet(&'static str),
+    Bag(&'static str),
+    Sequence(&'static str),
 }
 
-// The integer that a digit writes, or null.
-fn item(digit: u8) -> Value
-    ensures { IsWellMade result }
-{
-    if digit == b'n' {
-        Value::Null
-    } else {
-        Value::Int(i128::from(digit) - 48)
-    }
-}
-
-// The integers that digits write, with null for `n`.
-fn items(alloc: Global, digits: &str) -> Result<Vec<Value>, AllocError>
-    ensures { IfOk result (λ v. All IsWellMade v.items) }
+// The collection of the integers that digits write.
+fn integers(alloc: Global, kind: Kind, digits: &str) -> Result<Value, AllocError>
+    ensures { IfOk result IsWellMade }
 {
     let mut values = Vec::new(alloc);
     'each: for digit in digits.as_bytes() {
-        values.push(item(*digit))?;
+        values.push(Value::Int(i128::from(*digit) - 48))?;
     }
-    Ok(values)
+    make(alloc, kind, values)
 }
 
-fn collection(alloc: Global, kind: Kind, digits: &str) -> Result<Value, AllocError>
+// The value `Sequence{Bag{1,2},Bag{3}}`.
+fn nested_bags(alloc: Global) -> Result<Value, AllocError>
     ensures { IfOk result IsWellMade }
 {
-    make(alloc, kind, items(alloc, digits)?)
+    let mut bags = Vec::new(alloc);
+    bags.push(integers(alloc, Kind::Bag, "21")?)?;
+    bags.push(integers(alloc, Kind::Bag, "3")?)?;
+    make(alloc, Kind::Sequence, bags)
 }
 
-fn put_argument(alloc: Global, arg: Arg, args: &mut Vec<Value>) -> Result<(), AllocError>
-    requires { All IsWellMade args.old.items }
-    ensures { OnOk result (All IsWellMade args.new.items) }
+// The value that a letter writes: a digit an integer, `m` the greatest one, `n` null, and `s`, `q`
+// and `d` a collection.
+fn element(alloc: Global, letter: u8) -> Result<Value, AllocError>
+    ensures { IfOk result IsWellMade }
+{
+    match letter {
+        b'n' => Ok(Value::Null),
+        b'm' => Ok(Value::Int(i128::MAX)),
+        b's' => integers(alloc, Kind::Set, "21"),
+        b'q' => integers(alloc, Kind::Sequence, "21"),
+        b'd' => nested_bags(alloc),
+        _ => Ok(Value::Int(i128::from(letter) - 48)),
+    }
+}
+
+fn collection(alloc: Global, kind: Kind, letters: &str) -> Result<Value, AllocError>
+    ensures { IfOk result IsWellMade }
+{
+    let mut values = Vec::new(alloc);
+    'each: for letter in letters.as_bytes() {
+        values.push(element(alloc, *letter)?)?;
+    }
+    make(alloc, kind, values)
+}
+
+fn argument(alloc: Global, arg: Arg) -> Result<Value, AllocError>
+    ensures { IfOk result IsWellMade }
 {
     match arg {
-        Arg::Absent => {}
-        Arg::Null => args.push(Value::Null)?,
-        Arg::Invalid => args.push(Value::Invalid)?,
-        Arg::Int(n) => args.push(Value::Int(n))?,
-        Arg::Coll(kind, digits) => args.push(collection(alloc, kind, digits)?)?,
+        Arg::Null => Ok(Value::Null),
+        Arg::Invalid => Ok(Value::Invalid),
+        Arg::Int(n) => Ok(Value::Int(n)),
+        Arg::Set(letters) => collection(alloc, Kind::Set, letters),
+        Arg::OrderedSet(letters) => collection(alloc, Kind::OrderedSet, letters),
+        Arg::Bag(letters) => collection(alloc, Kind::Bag, letters),
+        Arg::Sequence(letters) => collection(alloc, Kind::Sequence, letters),
     }
-    Ok(())
+}
+
+fn arguments(alloc: Global, args: &[Arg]) -> Result<Vec<Value>, AllocError>
+    ensures { IfOk result (λ v. All IsWellMade v.items) }
+{
+    let mut values = Vec::new(alloc);
+    'each: for arg in args {
+        values.push(argument(alloc, *arg)?)?;
+    }
+    Ok(values)
 }
 
 fn shown(alloc: Global, value: &Value) -> Result<Vec<u8>, AllocError> {
@@ -84,20 +114,11 @@ fn shown(alloc: Global, value: &Value) -> Result<Vec<u8>, AllocError> {
 }
 
 // The text of what an operation gives.
-fn applied(
-    alloc: Global,
-    op: CollOp,
-    kind: Kind,
-    digits: &str,
-    first: Arg,
-    second: Arg,
-) -> Result<Vec<u8>, AllocError> {
-    let source = collection(alloc, kind, digits)?;
-    let mut args = Vec::new(alloc);
-    put_argument(alloc, first, &mut args)?;
-    put_argument(alloc, second, &mut args)?;
-    let found = apply(alloc, op, &source, args.as_slice())?;
-    shown(alloc, &found)
+fn applied(alloc: Global, op: CollOp, source: &Value, args: &[Arg]) -> Result<Vec<u8>, AllocError>
+    requires { IsWellMade source.now }
+{
+    let args = arguments(alloc, args)?;
+    shown(alloc, &apply(alloc, op, source, args.as_slice())?)
 }
 
 // The texts of what an operation gives of a source of each kind, between blanks. Where a kind has no
@@ -105,163 +126,257 @@ fn applied(
 fn of_each_kind(
     alloc: Global,
     op: CollOp,
-    digits: &str,
-    first: Arg,
-    second: Arg,
+    letters: &str,
+    args: &[Arg],
 ) -> Result<Vec<u8>, AllocError> {
-    let mut all = applied(alloc, op, Kind::Set, digits, first, second)?;
+    let mut all = applied(alloc, op, &collection(alloc, Kind::Set, letters)?, args)?;
     'each: for kind in [Kind::OrderedSet, Kind::Bag, Kind::Sequence] {
         all.push(b' ')?;
-        let text = applied(alloc, op, kind, digits, first, second)?;
+        let text = applied(alloc, op, &collection(alloc, kind, letters)?, args)?;
         all.extend_from_slice(text.as_slice())?;
     }
     Ok(all)
 }
 
 #[test]
-fn size_and_membership(rt: HostRuntime) -> Result<(), Fail> {
+fn sizes(rt: HostRuntime) -> Result<(), Fail> {
     let alloc = rt.alloc();
-    for (op, source, first, second, want) in [
-        (CollOp::Size, "3121", Arg::Absent, Arg::Absent, "3 3 4 4"),
+    for (op, source, want) in [
+        (CollOp::Size, "3121", "3 3 4 4"),
+        (CollOp::Size, "", "0 0 0 0"),
+        (CollOp::Size, "1n", "2 2 2 2"),
+        (CollOp::IsEmpty, "3121", "false false false false"),
+        (CollOp::IsEmpty, "", "true true true true"),
+        (CollOp::NotEmpty, "3121", "true true true true"),
+        (CollOp::NotEmpty, "", "false false false false"),
+    ] {
+        let found = of_each_kind(alloc, op, source, &[])?;
+        assert_eq!(rt; found.as_slice(), want.as_bytes());
+    }
+    Ok(())
+}
+
+#[test]
+fn membership(rt: HostRuntime) -> Result<(), Fail> {
+    let alloc = rt.alloc();
+    for (op, source, arg, want) in [
+        (CollOp::Includes, "3121", Arg::Int(1), "true true true true"),
         (
-            CollOp::IsEmpty,
+            CollOp::Includes,
             "3121",
-            Arg::Absent,
-            Arg::Absent,
+            Arg::Int(4),
             "false false false false",
         ),
+        (CollOp::Includes, "1n", Arg::Null, "true true true true"),
+        (CollOp::Includes, "31", Arg::Null, "false false false false"),
         (
-            CollOp::NotEmpty,
-            "3121",
-            Arg::Absent,
-            Arg::Absent,
-            "true true true true",
-        ),
-        (
-            CollOp::IsEmpty,
-            "",
-            Arg::Absent,
-            Arg::Absent,
+            CollOp::Includes,
+            "s3",
+            Arg::Set("21"),
             "true true true true",
         ),
         (
             CollOp::Includes,
-            "3121",
-            Arg::Int(1),
-            Arg::Absent,
-            "true true true true",
+            "s3",
+            Arg::Bag("21"),
+            "false false false false",
         ),
         (
             CollOp::Excludes,
             "3121",
             Arg::Int(1),
-            Arg::Absent,
             "false false false false",
         ),
-        (CollOp::Count, "3121", Arg::Int(1), Arg::Absent, "1 1 2 2"),
-        (CollOp::Count, "1n", Arg::Null, Arg::Absent, "1 1 1 1"),
+        (CollOp::Excludes, "3121", Arg::Int(4), "true true true true"),
+        (CollOp::Excludes, "1n", Arg::Null, "false false false false"),
+        (CollOp::Count, "3121", Arg::Int(1), "1 1 2 2"),
+        (CollOp::Count, "3121", Arg::Int(4), "0 0 0 0"),
+        (CollOp::Count, "1nn", Arg::Null, "1 1 2 2"),
     ] {
-        let found = of_each_kind(alloc, op, source, first, second)?;
+        let found = of_each_kind(alloc, op, source, &[arg])?;
         assert_eq!(rt; found.as_slice(), want.as_bytes());
     }
     Ok(())
 }
 
 #[test]
-fn membership_of_many(rt: HostRuntime) -> Result<(), Fail> {
+fn membership_of_all(rt: HostRuntime) -> Result<(), Fail> {
     let alloc = rt.alloc();
-    for (op, source, first, second, want) in [
-        (
-            CollOp::Includes,
-            "3121",
-            Arg::Int(4),
-            Arg::Absent,
-            "false false false false",
-        ),
-        (CollOp::Count, "3121", Arg::Int(4), Arg::Absent, "0 0 0 0"),
+    for (op, source, arg, want) in [
         (
             CollOp::IncludesAll,
             "3121",
-            Arg::Coll(Kind::Bag, "113"),
-            Arg::Absent,
+            Arg::Set("13"),
             "true true true true",
         ),
         (
             CollOp::IncludesAll,
             "3121",
-            Arg::Coll(Kind::Sequence, "14"),
-            Arg::Absent,
-            "false false false false",
-        ),
-        (
-            CollOp::ExcludesAll,
-            "3121",
-            Arg::Coll(Kind::Set, "56"),
-            Arg::Absent,
+            Arg::OrderedSet("31"),
             "true true true true",
         ),
         (
-            CollOp::ExcludesAll,
+            CollOp::IncludesAll,
             "3121",
-            Arg::Coll(Kind::OrderedSet, "51"),
-            Arg::Absent,
+            Arg::Bag("113"),
+            "true true true true",
+        ),
+        (
+            CollOp::IncludesAll,
+            "3121",
+            Arg::Sequence("14"),
             "false false false false",
         ),
         (
             CollOp::IncludesAll,
             "3121",
-            Arg::Null,
-            Arg::Absent,
-            "invalid invalid invalid invalid",
+            Arg::Set(""),
+            "true true true true",
+        ),
+        (
+            CollOp::IncludesAll,
+            "31n1",
+            Arg::Sequence("n1"),
+            "true true true true",
+        ),
+        (
+            CollOp::ExcludesAll,
+            "3121",
+            Arg::Set("56"),
+            "true true true true",
+        ),
+        (
+            CollOp::ExcludesAll,
+            "3121",
+            Arg::OrderedSet("51"),
+            "false false false false",
+        ),
+        (
+            CollOp::ExcludesAll,
+            "3121",
+            Arg::Bag("44n"),
+            "true true true true",
+        ),
+        (
+            CollOp::ExcludesAll,
+            "3121",
+            Arg::Sequence("45"),
+            "true true true true",
+        ),
+        (
+            CollOp::ExcludesAll,
+            "31n",
+            Arg::Sequence("n"),
+            "false false false false",
         ),
     ] {
-        let found = of_each_kind(alloc, op, source, first, second)?;
+        let found = of_each_kind(alloc, op, source, &[arg])?;
         assert_eq!(rt; found.as_slice(), want.as_bytes());
     }
     Ok(())
 }
 
 #[test]
-fn adding_and_taking_away(rt: HostRuntime) -> Result<(), Fail> {
+fn adding(rt: HostRuntime) -> Result<(), Fail> {
     let alloc = rt.alloc();
-    for (op, source, first, second, want) in [
+    for (op, source, arg, want) in [
         (
             CollOp::Including,
             "3121",
             Arg::Int(2),
-            Arg::Absent,
             "Set{1,2,3} OrderedSet{3,1,2} Bag{1,1,2,2,3} Sequence{3,1,2,1,2}",
         ),
         (
             CollOp::Including,
             "3121",
             Arg::Int(0),
-            Arg::Absent,
             "Set{0,1,2,3} OrderedSet{3,1,2,0} Bag{0,1,1,2,3} Sequence{3,1,2,1,0}",
+        ),
+        (
+            CollOp::Including,
+            "3151",
+            Arg::Int(4),
+            "Set{1,3,4,5} OrderedSet{3,1,5,4} Bag{1,1,3,4,5} Sequence{3,1,5,1,4}",
+        ),
+        (
+            CollOp::Including,
+            "3121",
+            Arg::Int(9),
+            "Set{1,2,3,9} OrderedSet{3,1,2,9} Bag{1,1,2,3,9} Sequence{3,1,2,1,9}",
         ),
         (
             CollOp::Including,
             "3121",
             Arg::Null,
-            Arg::Absent,
             "Set{null,1,2,3} OrderedSet{3,1,2,null} Bag{null,1,1,2,3} Sequence{3,1,2,1,null}",
         ),
+        (
+            CollOp::Including,
+            "",
+            Arg::Int(1),
+            "Set{1} OrderedSet{1} Bag{1} Sequence{1}",
+        ),
+        (
+            CollOp::Including,
+            "s",
+            Arg::Set("3"),
+            "Set{Set{1,2},Set{3}} OrderedSet{Set{1,2},Set{3}} Bag{Set{1,2},Set{3}} Sequence{Set{1,2},Set{3}}",
+        ),
+    ] {
+        let found = of_each_kind(alloc, op, source, &[arg])?;
+        assert_eq!(rt; found.as_slice(), want.as_bytes());
+    }
+    Ok(())
+}
+
+#[test]
+fn taking_away(rt: HostRuntime) -> Result<(), Fail> {
+    let alloc = rt.alloc();
+    for (op, source, arg, want) in [
         (
             CollOp::Excluding,
             "3121",
             Arg::Int(1),
-            Arg::Absent,
             "Set{2,3} OrderedSet{3,2} Bag{2,3} Sequence{3,2}",
         ),
         (
             CollOp::Excluding,
             "3121",
+            Arg::Int(3),
+            "Set{1,2} OrderedSet{1,2} Bag{1,1,2} Sequence{1,2,1}",
+        ),
+        (
+            CollOp::Excluding,
+            "3121",
             Arg::Int(4),
-            Arg::Absent,
             "Set{1,2,3} OrderedSet{3,1,2} Bag{1,1,2,3} Sequence{3,1,2,1}",
         ),
+        (
+            CollOp::Excluding,
+            "n1n",
+            Arg::Null,
+            "Set{1} OrderedSet{1} Bag{1} Sequence{1}",
+        ),
+        (
+            CollOp::Excluding,
+            "1",
+            Arg::Int(1),
+            "Set{} OrderedSet{} Bag{} Sequence{}",
+        ),
+        (
+            CollOp::Excluding,
+            "",
+            Arg::Int(1),
+            "Set{} OrderedSet{} Bag{} Sequence{}",
+        ),
+        (
+            CollOp::Excluding,
+            "s3",
+            Arg::Set("12"),
+            "Set{3} OrderedSet{3} Bag{3} Sequence{3}",
+        ),
     ] {
-        let found = of_each_kind(alloc, op, source, first, second)?;
+        let found = of_each_kind(alloc, op, source, &[arg])?;
         assert_eq!(rt; found.as_slice(), want.as_bytes());
     }
     Ok(())
@@ -270,90 +385,201 @@ fn adding_and_taking_away(rt: HostRuntime) -> Result<(), Fail> {
 #[test]
 fn unions(rt: HostRuntime) -> Result<(), Fail> {
     let alloc = rt.alloc();
-    for (op, source, first, second, want) in [
+    for (op, source, arg, want) in [
         (
             CollOp::Union,
             "3121",
-            Arg::Coll(Kind::Set, "24"),
-            Arg::Absent,
+            Arg::Set("24"),
             "Set{1,2,3,4} invalid Bag{1,1,2,2,3,4} invalid",
         ),
         (
             CollOp::Union,
             "3121",
-            Arg::Coll(Kind::OrderedSet, "24"),
-            Arg::Absent,
+            Arg::OrderedSet("24"),
             "invalid OrderedSet{3,1,2,4} invalid invalid",
         ),
         (
             CollOp::Union,
             "3121",
-            Arg::Coll(Kind::Bag, "242"),
-            Arg::Absent,
+            Arg::Bag("242"),
             "Bag{1,2,2,2,3,4} invalid Bag{1,1,2,2,2,3,4} invalid",
         ),
         (
             CollOp::Union,
             "3121",
-            Arg::Coll(Kind::Sequence, "242"),
-            Arg::Absent,
+            Arg::Sequence("242"),
             "invalid invalid invalid Sequence{3,1,2,1,2,4,2}",
         ),
         (
             CollOp::Union,
-            "3121",
-            Arg::Null,
-            Arg::Absent,
-            "invalid invalid invalid invalid",
+            "",
+            Arg::Set("24"),
+            "Set{2,4} invalid Bag{2,4} invalid",
+        ),
+        (
+            CollOp::Union,
+            "24",
+            Arg::Bag(""),
+            "Bag{2,4} invalid Bag{2,4} invalid",
+        ),
+        (
+            CollOp::Union,
+            "2n",
+            Arg::Set("n1"),
+            "Set{null,1,2} invalid Bag{null,null,1,2} invalid",
         ),
     ] {
-        let found = of_each_kind(alloc, op, source, first, second)?;
+        let found = of_each_kind(alloc, op, source, &[arg])?;
         assert_eq!(rt; found.as_slice(), want.as_bytes());
     }
     Ok(())
 }
 
 #[test]
-fn shared_and_different(rt: HostRuntime) -> Result<(), Fail> {
+fn intersections(rt: HostRuntime) -> Result<(), Fail> {
     let alloc = rt.alloc();
-    for (op, source, first, second, want) in [
+    for (op, source, arg, want) in [
         (
             CollOp::Intersection,
             "3121",
-            Arg::Coll(Kind::Set, "125"),
-            Arg::Absent,
+            Arg::Set("125"),
             "Set{1,2} invalid Set{1,2} invalid",
         ),
         (
             CollOp::Intersection,
             "3121",
-            Arg::Coll(Kind::Bag, "1225"),
-            Arg::Absent,
+            Arg::OrderedSet("125"),
+            "invalid invalid invalid invalid",
+        ),
+        (
+            CollOp::Intersection,
+            "3121",
+            Arg::Bag("1225"),
             "Set{1,2} invalid Bag{1,2} invalid",
         ),
         (
             CollOp::Intersection,
             "1112",
-            Arg::Coll(Kind::Bag, "113"),
-            Arg::Absent,
+            Arg::Bag("113"),
             "Set{1} invalid Bag{1,1} invalid",
+        ),
+        (
+            CollOp::Intersection,
+            "113",
+            Arg::Bag("1112"),
+            "Set{1} invalid Bag{1,1} invalid",
+        ),
+        (
+            CollOp::Intersection,
+            "3121",
+            Arg::Sequence("125"),
+            "invalid invalid invalid invalid",
+        ),
+        (
+            CollOp::Intersection,
+            "3121",
+            Arg::Set(""),
+            "Set{} invalid Set{} invalid",
+        ),
+        (
+            CollOp::Intersection,
+            "nn1",
+            Arg::Bag("nn"),
+            "Set{null} invalid Bag{null,null} invalid",
+        ),
+    ] {
+        let found = of_each_kind(alloc, op, source, &[arg])?;
+        assert_eq!(rt; found.as_slice(), want.as_bytes());
+    }
+    Ok(())
+}
+
+#[test]
+fn differences(rt: HostRuntime) -> Result<(), Fail> {
+    let alloc = rt.alloc();
+    for (op, source, arg, want) in [
+        (
+            CollOp::Minus,
+            "3121",
+            Arg::Set("24"),
+            "Set{1,3} invalid invalid invalid",
         ),
         (
             CollOp::Minus,
             "3121",
-            Arg::Coll(Kind::Set, "24"),
-            Arg::Absent,
-            "Set{1,3} invalid invalid invalid",
+            Arg::OrderedSet("24"),
+            "invalid invalid invalid invalid",
+        ),
+        (
+            CollOp::Minus,
+            "3121",
+            Arg::Bag("24"),
+            "invalid invalid invalid invalid",
+        ),
+        (
+            CollOp::Minus,
+            "3121",
+            Arg::Sequence("24"),
+            "invalid invalid invalid invalid",
         ),
         (
             CollOp::SymmetricDifference,
             "3121",
-            Arg::Coll(Kind::Set, "24"),
-            Arg::Absent,
+            Arg::Set("24"),
             "Set{1,3,4} invalid invalid invalid",
         ),
+        (
+            CollOp::SymmetricDifference,
+            "12",
+            Arg::Set("21"),
+            "Set{} invalid invalid invalid",
+        ),
+        (
+            CollOp::SymmetricDifference,
+            "3121",
+            Arg::OrderedSet("24"),
+            "invalid invalid invalid invalid",
+        ),
+        (
+            CollOp::SymmetricDifference,
+            "3121",
+            Arg::Bag("24"),
+            "invalid invalid invalid invalid",
+        ),
+        (
+            CollOp::SymmetricDifference,
+            "3121",
+            Arg::Sequence("24"),
+            "invalid invalid invalid invalid",
+        ),
     ] {
-        let found = of_each_kind(alloc, op, source, first, second)?;
+        let found = of_each_kind(alloc, op, source, &[arg])?;
+        assert_eq!(rt; found.as_slice(), want.as_bytes());
+    }
+    Ok(())
+}
+
+#[test]
+fn first_and_last_places(rt: HostRuntime) -> Result<(), Fail> {
+    let alloc = rt.alloc();
+    for (op, source, want) in [
+        (CollOp::First, "3121", "invalid 3 invalid 3"),
+        (CollOp::Last, "3121", "invalid 2 invalid 1"),
+        (CollOp::First, "", "invalid invalid invalid invalid"),
+        (CollOp::Last, "", "invalid invalid invalid invalid"),
+        (CollOp::First, "n1", "invalid null invalid null"),
+        (
+            CollOp::Reverse,
+            "3121",
+            "invalid OrderedSet{2,1,3} invalid Sequence{1,2,1,3}",
+        ),
+        (
+            CollOp::Reverse,
+            "",
+            "invalid OrderedSet{} invalid Sequence{}",
+        ),
+    ] {
+        let found = of_each_kind(alloc, op, source, &[])?;
         assert_eq!(rt; found.as_slice(), want.as_bytes());
     }
     Ok(())
@@ -362,109 +588,175 @@ fn shared_and_different(rt: HostRuntime) -> Result<(), Fail> {
 #[test]
 fn places(rt: HostRuntime) -> Result<(), Fail> {
     let alloc = rt.alloc();
-    for (op, source, first, second, want) in [
+    for (op, source, arg, want) in [
         (
             CollOp::At,
             "3121",
             Arg::Int(0),
-            Arg::Absent,
             "invalid invalid invalid invalid",
         ),
         (
             CollOp::At,
             "3121",
-            Arg::Int(1),
-            Arg::Absent,
-            "invalid 3 invalid 3",
+            Arg::Int(-1),
+            "invalid invalid invalid invalid",
         ),
-        (
-            CollOp::At,
-            "3121",
-            Arg::Int(3),
-            Arg::Absent,
-            "invalid 2 invalid 2",
-        ),
-        (
-            CollOp::At,
-            "3121",
-            Arg::Int(4),
-            Arg::Absent,
-            "invalid invalid invalid 1",
-        ),
+        (CollOp::At, "3121", Arg::Int(1), "invalid 3 invalid 3"),
+        (CollOp::At, "3121", Arg::Int(3), "invalid 2 invalid 2"),
+        (CollOp::At, "3121", Arg::Int(4), "invalid invalid invalid 1"),
         (
             CollOp::At,
             "3121",
             Arg::Int(5),
-            Arg::Absent,
             "invalid invalid invalid invalid",
         ),
+        (CollOp::IndexOf, "3121", Arg::Int(3), "invalid 1 invalid 1"),
+        (CollOp::IndexOf, "3121", Arg::Int(1), "invalid 2 invalid 2"),
         (
-            CollOp::At,
+            CollOp::IndexOf,
             "3121",
-            Arg::Null,
-            Arg::Absent,
+            Arg::Int(7),
             "invalid invalid invalid invalid",
         ),
-        (
-            CollOp::First,
-            "3121",
-            Arg::Absent,
-            Arg::Absent,
-            "invalid 3 invalid 3",
-        ),
-        (
-            CollOp::Last,
-            "3121",
-            Arg::Absent,
-            Arg::Absent,
-            "invalid 2 invalid 1",
-        ),
-        (
-            CollOp::First,
-            "",
-            Arg::Absent,
-            Arg::Absent,
-            "invalid invalid invalid invalid",
-        ),
-        (
-            CollOp::Last,
-            "",
-            Arg::Absent,
-            Arg::Absent,
-            "invalid invalid invalid invalid",
-        ),
+        (CollOp::IndexOf, "3n1", Arg::Null, "invalid 2 invalid 2"),
     ] {
-        let found = of_each_kind(alloc, op, source, first, second)?;
+        let found = of_each_kind(alloc, op, source, &[arg])?;
         assert_eq!(rt; found.as_slice(), want.as_bytes());
     }
     Ok(())
 }
 
 #[test]
-fn parts_and_first_places(rt: HostRuntime) -> Result<(), Fail> {
+fn ends(rt: HostRuntime) -> Result<(), Fail> {
+    let alloc = rt.alloc();
+    for (op, source, arg, want) in [
+        (
+            CollOp::Append,
+            "3121",
+            Arg::Int(1),
+            "invalid OrderedSet{3,1,2} invalid Sequence{3,1,2,1,1}",
+        ),
+        (
+            CollOp::Append,
+            "3121",
+            Arg::Int(3),
+            "invalid OrderedSet{3,1,2} invalid Sequence{3,1,2,1,3}",
+        ),
+        (
+            CollOp::Append,
+            "3121",
+            Arg::Int(9),
+            "invalid OrderedSet{3,1,2,9} invalid Sequence{3,1,2,1,9}",
+        ),
+        (
+            CollOp::Append,
+            "31",
+            Arg::Null,
+            "invalid OrderedSet{3,1,null} invalid Sequence{3,1,null}",
+        ),
+        (
+            CollOp::Prepend,
+            "3121",
+            Arg::Int(2),
+            "invalid OrderedSet{3,1,2} invalid Sequence{2,3,1,2,1}",
+        ),
+        (
+            CollOp::Prepend,
+            "3121",
+            Arg::Int(9),
+            "invalid OrderedSet{9,3,1,2} invalid Sequence{9,3,1,2,1}",
+        ),
+        (
+            CollOp::Prepend,
+            "",
+            Arg::Int(9),
+            "invalid OrderedSet{9} invalid Sequence{9}",
+        ),
+    ] {
+        let found = of_each_kind(alloc, op, source, &[arg])?;
+        assert_eq!(rt; found.as_slice(), want.as_bytes());
+    }
+    Ok(())
+}
+
+#[test]
+fn insertions(rt: HostRuntime) -> Result<(), Fail> {
     let alloc = rt.alloc();
     for (op, source, first, second, want) in [
         (
-            CollOp::IndexOf,
+            CollOp::InsertAt,
             "3121",
-            Arg::Int(1),
-            Arg::Absent,
-            "invalid 2 invalid 2",
-        ),
-        (
-            CollOp::IndexOf,
-            "3121",
-            Arg::Int(7),
-            Arg::Absent,
+            Arg::Int(0),
+            Arg::Int(2),
             "invalid invalid invalid invalid",
         ),
         (
-            CollOp::Reverse,
+            CollOp::InsertAt,
             "3121",
-            Arg::Absent,
-            Arg::Absent,
-            "invalid OrderedSet{2,1,3} invalid Sequence{1,2,1,3}",
+            Arg::Int(1),
+            Arg::Int(9),
+            "invalid OrderedSet{9,3,1,2} invalid Sequence{9,3,1,2,1}",
         ),
+        (
+            CollOp::InsertAt,
+            "3121",
+            Arg::Int(1),
+            Arg::Int(2),
+            "invalid OrderedSet{3,1,2} invalid Sequence{2,3,1,2,1}",
+        ),
+        (
+            CollOp::InsertAt,
+            "3121",
+            Arg::Int(3),
+            Arg::Int(3),
+            "invalid OrderedSet{3,1,2} invalid Sequence{3,1,3,2,1}",
+        ),
+        (
+            CollOp::InsertAt,
+            "3121",
+            Arg::Int(4),
+            Arg::Int(9),
+            "invalid OrderedSet{3,1,2,9} invalid Sequence{3,1,2,9,1}",
+        ),
+        (
+            CollOp::InsertAt,
+            "3121",
+            Arg::Int(5),
+            Arg::Int(9),
+            "invalid invalid invalid Sequence{3,1,2,1,9}",
+        ),
+        (
+            CollOp::InsertAt,
+            "3121",
+            Arg::Int(6),
+            Arg::Int(9),
+            "invalid invalid invalid invalid",
+        ),
+        (
+            CollOp::InsertAt,
+            "31",
+            Arg::Int(2),
+            Arg::Null,
+            "invalid OrderedSet{3,null,1} invalid Sequence{3,null,1}",
+        ),
+        (
+            CollOp::InsertAt,
+            "",
+            Arg::Int(1),
+            Arg::Int(9),
+            "invalid OrderedSet{9} invalid Sequence{9}",
+        ),
+    ] {
+        let found = of_each_kind(alloc, op, source, &[first, second])?;
+        assert_eq!(rt; found.as_slice(), want.as_bytes());
+    }
+    Ok(())
+}
+
+#[test]
+fn parts(rt: HostRuntime) -> Result<(), Fail> {
+    let alloc = rt.alloc();
+    for (op, source, first, second, want) in [
         (
             CollOp::SubSequence,
             "3121",
@@ -475,8 +767,36 @@ fn parts_and_first_places(rt: HostRuntime) -> Result<(), Fail> {
         (
             CollOp::SubSequence,
             "3121",
+            Arg::Int(1),
+            Arg::Int(4),
+            "invalid invalid invalid Sequence{3,1,2,1}",
+        ),
+        (
+            CollOp::SubSequence,
+            "3121",
+            Arg::Int(2),
+            Arg::Int(2),
+            "invalid invalid invalid Sequence{1}",
+        ),
+        (
+            CollOp::SubSequence,
+            "3121",
             Arg::Int(2),
             Arg::Int(1),
+            "invalid invalid invalid invalid",
+        ),
+        (
+            CollOp::SubSequence,
+            "3121",
+            Arg::Int(0),
+            Arg::Int(1),
+            "invalid invalid invalid invalid",
+        ),
+        (
+            CollOp::SubSequence,
+            "3121",
+            Arg::Int(1),
+            Arg::Int(5),
             "invalid invalid invalid invalid",
         ),
         (
@@ -490,92 +810,32 @@ fn parts_and_first_places(rt: HostRuntime) -> Result<(), Fail> {
             CollOp::SubOrderedSet,
             "3121",
             Arg::Int(1),
-            Arg::Int(4),
+            Arg::Int(1),
+            "invalid OrderedSet{3} invalid invalid",
+        ),
+        (
+            CollOp::SubOrderedSet,
+            "3121",
+            Arg::Int(2),
+            Arg::Int(1),
             "invalid invalid invalid invalid",
         ),
         (
-            CollOp::SubSequence,
+            CollOp::SubOrderedSet,
             "3121",
             Arg::Int(0),
             Arg::Int(1),
             "invalid invalid invalid invalid",
         ),
-    ] {
-        let found = of_each_kind(alloc, op, source, first, second)?;
-        assert_eq!(rt; found.as_slice(), want.as_bytes());
-    }
-    Ok(())
-}
-
-#[test]
-fn insertions(rt: HostRuntime) -> Result<(), Fail> {
-    let alloc = rt.alloc();
-    for (op, source, first, second, want) in [
         (
-            CollOp::Append,
+            CollOp::SubOrderedSet,
             "3121",
             Arg::Int(1),
-            Arg::Absent,
-            "invalid OrderedSet{3,1,2} invalid Sequence{3,1,2,1,1}",
-        ),
-        (
-            CollOp::Append,
-            "3121",
-            Arg::Int(9),
-            Arg::Absent,
-            "invalid OrderedSet{3,1,2,9} invalid Sequence{3,1,2,1,9}",
-        ),
-        (
-            CollOp::Prepend,
-            "3121",
-            Arg::Int(2),
-            Arg::Absent,
-            "invalid OrderedSet{3,1,2} invalid Sequence{2,3,1,2,1}",
-        ),
-        (
-            CollOp::Prepend,
-            "3121",
-            Arg::Int(9),
-            Arg::Absent,
-            "invalid OrderedSet{9,3,1,2} invalid Sequence{9,3,1,2,1}",
-        ),
-        (
-            CollOp::InsertAt,
-            "3121",
-            Arg::Int(1),
-            Arg::Int(9),
-            "invalid OrderedSet{9,3,1,2} invalid Sequence{9,3,1,2,1}",
-        ),
-        (
-            CollOp::InsertAt,
-            "3121",
             Arg::Int(4),
-            Arg::Int(9),
-            "invalid OrderedSet{3,1,2,9} invalid Sequence{3,1,2,9,1}",
-        ),
-        (
-            CollOp::InsertAt,
-            "3121",
-            Arg::Int(6),
-            Arg::Int(9),
-            "invalid invalid invalid invalid",
-        ),
-        (
-            CollOp::InsertAt,
-            "3121",
-            Arg::Int(1),
-            Arg::Int(2),
-            "invalid OrderedSet{3,1,2} invalid Sequence{2,3,1,2,1}",
-        ),
-        (
-            CollOp::InsertAt,
-            "3121",
-            Arg::Int(0),
-            Arg::Int(2),
             "invalid invalid invalid invalid",
         ),
     ] {
-        let found = of_each_kind(alloc, op, source, first, second)?;
+        let found = of_each_kind(alloc, op, source, &[first, second])?;
         assert_eq!(rt; found.as_slice(), want.as_bytes());
     }
     Ok(())
@@ -584,41 +844,24 @@ fn insertions(rt: HostRuntime) -> Result<(), Fail> {
 #[test]
 fn sums(rt: HostRuntime) -> Result<(), Fail> {
     let alloc = rt.alloc();
-    for (op, source, first, second, want) in [
-        (CollOp::Sum, "3121", Arg::Absent, Arg::Absent, "6 6 7 7"),
-        (CollOp::Max, "3121", Arg::Absent, Arg::Absent, "3 3 3 3"),
-        (CollOp::Min, "3121", Arg::Absent, Arg::Absent, "1 1 1 1"),
-        (CollOp::Sum, "", Arg::Absent, Arg::Absent, "0 0 0 0"),
-        (
-            CollOp::Max,
-            "",
-            Arg::Absent,
-            Arg::Absent,
-            "invalid invalid invalid invalid",
-        ),
+    for (op, source, want) in [
+        (CollOp::Sum, "3121", "6 6 7 7"),
+        (CollOp::Sum, "", "0 0 0 0"),
+        (CollOp::Sum, "1n", "invalid invalid invalid invalid"),
         (
             CollOp::Sum,
-            "1n",
-            Arg::Absent,
-            Arg::Absent,
-            "invalid invalid invalid invalid",
+            "m",
+            "170141183460469231731687303715884105727 170141183460469231731687303715884105727 170141183460469231731687303715884105727 170141183460469231731687303715884105727",
         ),
-        (
-            CollOp::Max,
-            "1n",
-            Arg::Absent,
-            Arg::Absent,
-            "invalid invalid invalid invalid",
-        ),
-        (
-            CollOp::Min,
-            "n",
-            Arg::Absent,
-            Arg::Absent,
-            "invalid invalid invalid invalid",
-        ),
+        (CollOp::Sum, "m1", "invalid invalid invalid invalid"),
+        (CollOp::Max, "3121", "3 3 3 3"),
+        (CollOp::Max, "", "invalid invalid invalid invalid"),
+        (CollOp::Max, "1n", "invalid invalid invalid invalid"),
+        (CollOp::Min, "3121", "1 1 1 1"),
+        (CollOp::Min, "", "invalid invalid invalid invalid"),
+        (CollOp::Min, "n", "invalid invalid invalid invalid"),
     ] {
-        let found = of_each_kind(alloc, op, source, first, second)?;
+        let found = of_each_kind(alloc, op, source, &[])?;
         assert_eq!(rt; found.as_slice(), want.as_bytes());
     }
     Ok(())
@@ -627,44 +870,148 @@ fn sums(rt: HostRuntime) -> Result<(), Fail> {
 #[test]
 fn conversions(rt: HostRuntime) -> Result<(), Fail> {
     let alloc = rt.alloc();
-    for (op, source, first, second, want) in [
+    for (op, source, want) in [
         (
             CollOp::AsSet,
             "3121",
-            Arg::Absent,
-            Arg::Absent,
             "Set{1,2,3} Set{1,2,3} Set{1,2,3} Set{1,2,3}",
         ),
         (
             CollOp::AsBag,
             "3121",
-            Arg::Absent,
-            Arg::Absent,
             "Bag{1,2,3} Bag{1,2,3} Bag{1,1,2,3} Bag{1,1,2,3}",
         ),
         (
             CollOp::AsSequence,
             "3121",
-            Arg::Absent,
-            Arg::Absent,
             "Sequence{1,2,3} Sequence{3,1,2} Sequence{1,1,2,3} Sequence{3,1,2,1}",
         ),
         (
             CollOp::AsOrderedSet,
             "3121",
-            Arg::Absent,
-            Arg::Absent,
             "OrderedSet{1,2,3} OrderedSet{3,1,2} OrderedSet{1,2,3} OrderedSet{3,1,2}",
         ),
         (
             CollOp::Flatten,
             "3121",
-            Arg::Absent,
-            Arg::Absent,
             "Set{1,2,3} OrderedSet{3,1,2} Bag{1,1,2,3} Sequence{3,1,2,1}",
         ),
+        (
+            CollOp::Flatten,
+            "sq",
+            "Set{1,2} OrderedSet{1,2} Bag{1,1,2,2} Sequence{1,2,2,1}",
+        ),
+        (
+            CollOp::Flatten,
+            "dd",
+            "Set{1,2,3} OrderedSet{1,2,3} Bag{1,1,2,2,3,3} Sequence{1,2,3,1,2,3}",
+        ),
+        (
+            CollOp::Flatten,
+            "7dn",
+            "Set{null,1,2,3,7} OrderedSet{7,1,2,3,null} Bag{null,1,2,3,7} Sequence{7,1,2,3,null}",
+        ),
     ] {
-        let found = of_each_kind(alloc, op, source, first, second)?;
+        let found = of_each_kind(alloc, op, source, &[])?;
+        assert_eq!(rt; found.as_slice(), want.as_bytes());
+    }
+    Ok(())
+}
+
+#[test]
+fn nulls_for_collections_and_places(rt: HostRuntime) -> Result<(), Fail> {
+    let alloc = rt.alloc();
+    for (op, source, arg, want) in [
+        (
+            CollOp::IncludesAll,
+            "3121",
+            Arg::Null,
+            "invalid invalid invalid invalid",
+        ),
+        (
+            CollOp::ExcludesAll,
+            "3121",
+            Arg::Null,
+            "invalid invalid invalid invalid",
+        ),
+        (
+            CollOp::Union,
+            "3121",
+            Arg::Null,
+            "invalid invalid invalid invalid",
+        ),
+        (
+            CollOp::Intersection,
+            "3121",
+            Arg::Null,
+            "invalid invalid invalid invalid",
+        ),
+        (
+            CollOp::Minus,
+            "3121",
+            Arg::Null,
+            "invalid invalid invalid invalid",
+        ),
+        (
+            CollOp::SymmetricDifference,
+            "3121",
+            Arg::Null,
+            "invalid invalid invalid invalid",
+        ),
+        (
+            CollOp::At,
+            "3121",
+            Arg::Null,
+            "invalid invalid invalid invalid",
+        ),
+    ] {
+        let found = of_each_kind(alloc, op, source, &[arg])?;
+        assert_eq!(rt; found.as_slice(), want.as_bytes());
+    }
+    Ok(())
+}
+
+#[test]
+fn nulls_for_integers(rt: HostRuntime) -> Result<(), Fail> {
+    let alloc = rt.alloc();
+    for (op, source, first, second, want) in [
+        (
+            CollOp::InsertAt,
+            "3121",
+            Arg::Null,
+            Arg::Int(1),
+            "invalid invalid invalid invalid",
+        ),
+        (
+            CollOp::SubSequence,
+            "3121",
+            Arg::Null,
+            Arg::Int(1),
+            "invalid invalid invalid invalid",
+        ),
+        (
+            CollOp::SubSequence,
+            "3121",
+            Arg::Int(1),
+            Arg::Null,
+            "invalid invalid invalid invalid",
+        ),
+        (
+            CollOp::SubOrderedSet,
+            "3121",
+            Arg::Null,
+            Arg::Int(1),
+            "invalid invalid invalid invalid",
+        ),
+        (
+            CollOp::SubOrderedSet,
+            "3121",
+            Arg::Int(1),
+            Arg::Null,
+            "invalid invalid invalid invalid",
+        ),
+    ] {
+        let found = of_each_kind(alloc, op, source, &[first, second])?;
         assert_eq!(rt; found.as_slice(), want.as_bytes());
     }
     Ok(())
@@ -675,11 +1022,77 @@ fn invalid_arguments(rt: HostRuntime) -> Result<(), Fail> {
     let alloc = rt.alloc();
     for op in [
         CollOp::Includes,
+        CollOp::Excludes,
+        CollOp::Count,
+        CollOp::IncludesAll,
+        CollOp::ExcludesAll,
         CollOp::Including,
+        CollOp::Excluding,
         CollOp::Union,
+        CollOp::Append,
+        CollOp::Prepend,
         CollOp::At,
+        CollOp::IndexOf,
     ] {
-        let found = applied(alloc, op, Kind::Sequence, "12", Arg::Invalid, Arg::Absent)?;
+        let source = collection(alloc, Kind::Sequence, "3121")?;
+        let found = applied(alloc, op, &source, &[Arg::Invalid])?;
+        assert_eq!(rt; found.as_slice(), "invalid".as_bytes());
+    }
+    Ok(())
+}
+
+#[test]
+fn invalid_places(rt: HostRuntime) -> Result<(), Fail> {
+    let alloc = rt.alloc();
+    for op in [CollOp::InsertAt, CollOp::SubSequence] {
+        let source = collection(alloc, Kind::Sequence, "3121")?;
+        let first = applied(alloc, op, &source, &[Arg::Invalid, Arg::Int(1)])?;
+        let second = applied(alloc, op, &source, &[Arg::Int(1), Arg::Invalid])?;
+        assert_eq!(rt; first.as_slice(), "invalid".as_bytes());
+        assert_eq!(rt; second.as_slice(), "invalid".as_bytes());
+    }
+    Ok(())
+}
+
+#[test]
+fn sources_that_are_no_collection(rt: HostRuntime) -> Result<(), Fail> {
+    let alloc = rt.alloc();
+    for op in [
+        CollOp::Size,
+        CollOp::IsEmpty,
+        CollOp::NotEmpty,
+        CollOp::First,
+        CollOp::Last,
+        CollOp::Reverse,
+        CollOp::Sum,
+        CollOp::Max,
+        CollOp::Min,
+        CollOp::AsSet,
+        CollOp::AsBag,
+        CollOp::AsSequence,
+        CollOp::AsOrderedSet,
+        CollOp::Flatten,
+    ] {
+        let of_invalid = applied(alloc, op, &Value::Invalid, &[])?;
+        let of_null = applied(alloc, op, &Value::Null, &[])?;
+        assert_eq!(rt; of_invalid.as_slice(), "invalid".as_bytes());
+        assert_eq!(rt; of_null.as_slice(), "invalid".as_bytes());
+    }
+    for (op, arg) in [
+        (CollOp::Includes, Arg::Int(1)),
+        (CollOp::Count, Arg::Int(1)),
+        (CollOp::IncludesAll, Arg::Set("1")),
+        (CollOp::Including, Arg::Int(1)),
+        (CollOp::Excluding, Arg::Int(1)),
+        (CollOp::Union, Arg::Set("1")),
+        (CollOp::Intersection, Arg::Set("1")),
+        (CollOp::Minus, Arg::Set("1")),
+        (CollOp::SymmetricDifference, Arg::Set("1")),
+        (CollOp::Append, Arg::Int(1)),
+        (CollOp::At, Arg::Int(1)),
+        (CollOp::IndexOf, Arg::Int(1)),
+    ] {
+        let found = applied(alloc, op, &Value::Invalid, &[arg])?;
         assert_eq!(rt; found.as_slice(), "invalid".as_bytes());
     }
     Ok(())
@@ -718,30 +1131,21 @@ fn nested(alloc: Global, depth: u32) -> Result<Value, AllocError>
     Ok(value)
 }
 
-#[test]
-fn collections_nest_256_deep(rt: HostRuntime) -> Result<(), Fail> {
-    let alloc = rt.alloc();
-    let deepest = nested(alloc, 256)?;
-    assert!(rt; !matches!(deepest, Value::Invalid));
-    let deeper = nested(alloc, 257)?;
-    assert!(rt; matches!(deeper, Value::Invalid));
-    Ok(())
+// Whether a Set without elements takes null in `depth` Sets.
+fn takes(alloc: Global, depth: u32) -> Result<bool, AllocError> {
+    let mut args = Vec::new(alloc);
+    args.push(nested(alloc, depth)?)?;
+    let none = make(alloc, Kind::Set, Vec::new(alloc))?;
+    let found = apply(alloc, CollOp::Including, &none, args.as_slice())?;
+    Ok(!matches!(found, Value::Invalid))
 }
 
 #[test]
-fn flatten_goes_to_any_depth(rt: HostRuntime) -> Result<(), Fail> {
+fn collections_nest_256_deep(rt: HostRuntime) -> Result<(), Fail> {
     let alloc = rt.alloc();
-    let mut inner = Vec::new(alloc);
-    put_argument(alloc, Arg::Coll(Kind::Bag, "21"), &mut inner)?;
-    put_argument(alloc, Arg::Int(5), &mut inner)?;
-    let mut outer = Vec::new(alloc);
-    put_argument(alloc, Arg::Int(7), &mut outer)?;
-    outer.push(make(alloc, Kind::OrderedSet, inner)?)?;
-    let source = make(alloc, Kind::Sequence, outer)?;
-    let found = apply(alloc, CollOp::Flatten, &source, &[])?;
-    assert_eq!(rt;
-        shown(alloc, &found)?.as_slice(),
-        "Sequence{7,1,2,5}".as_bytes()
-    );
+    for (depth, fits) in [(255, true), (256, true), (257, false)] {
+        assert_eq!(rt; !matches!(nested(alloc, depth)?, Value::Invalid), fits);
+        assert_eq!(rt; takes(alloc, depth - 1)?, fits);
+    }
     Ok(())
 }

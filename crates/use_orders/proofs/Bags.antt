@@ -29,12 +29,12 @@ lt_up Less h = refl
 lt_up Equal h = absurd (true≢false (sym h))
 lt_up Greater h = absurd (true≢false (sym h))
 
-lt_down : (r : Ordering) → is_lt r ≡ false → is_gt (ordering_reverse r) ≡ false
+pub lt_down : (r : Ordering) → is_lt r ≡ false → is_gt (ordering_reverse r) ≡ false
 lt_down Less h = absurd (true≢false h)
 lt_down Equal h = refl
 lt_down Greater h = refl
 
-not_under : (r : Ordering) → is_gt r ≡ false → is_lt (ordering_reverse r) ≡ false
+pub not_under : (r : Ordering) → is_gt r ≡ false → is_lt (ordering_reverse r) ≡ false
 not_under Less h = refl
 not_under Equal h = refl
 not_under Greater h = absurd (true≢false h)

@@ -12,12 +12,12 @@ use Rattle.use_orders.specs.Canon.{has, add_new, firsts_of, is_first}
 use Rattle.use_orders.proofs.Sets.{equal, match_all, once_or, swap_or}
 use Rattle.use_orders.proofs.Merged.{has_alike, or_false, or_assoc}
 
-covered : (a b : Bool) → (b ≡ true → a ≡ true) → a ≡ (a || b)
+pub covered : (a b : Bool) → (b ≡ true → a ≡ true) → a ≡ (a || b)
 covered true b h = refl
 covered false true h = h refl
 covered false false h = refl
 
-or_swap : (a b : Bool) → (a || b) ≡ (b || a)
+pub or_swap : (a b : Bool) → (a || b) ≡ (b || a)
 or_swap true true = refl
 or_swap true false = refl
 or_swap false true = refl

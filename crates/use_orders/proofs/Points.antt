@@ -8,10 +8,10 @@ use Rattle.std.proofs.lemmas.List.Sorted.{searchable_from_sorted}
 use Rattle.use_orders.specs.Canon.{times}
 use Rattle.use_orders.proofs.Bags.{times-cons}
 
-abbrev one_if : Bool → ℕ
+abbrev pub one_if : Bool → ℕ
 one_if b = cond b 1 0
 
-counted : {X : Type 0} (p : X → Bool) (x : X) (xs : List X) → count_by p (x ∷ xs) ≡ one_if (p x) + count_by p xs
+pub counted : {X : Type 0} (p : X → Bool) (x : X) (xs : List X) → count_by p (x ∷ xs) ≡ one_if (p x) + count_by p xs
 counted p x xs = sum_by-cons (λ y. cond (p y) 1 0) x xs
 
 none_counted : {X : Type 0} (p : X → Bool) (xs : List X) → ((k : ℕ) (d : X) → k < length xs → p (get_or xs k d) ≡ false) → count_by p xs ≡ 0

@@ -62,7 +62,7 @@ module _ {K : Type 0} {cmp : K → K → Ordering} (o : IsTotalOrder cmp) where
   pub over : (x y : K) → cmp x y ≡ Greater → cmp y x ≡ Less
   over x y e = o.antisymm y x ∙ ap ordering_reverse e
 
-  rises-insert_new : (ys : List K) (x : K) → IsStrictlySortedBy cmp ys → IsStrictlySortedBy cmp (insert_new cmp ys x)
+  pub rises-insert_new : (ys : List K) (x : K) → IsStrictlySortedBy cmp ys → IsStrictlySortedBy cmp (insert_new cmp ys x)
   unfolding IsStrictlySortedBy
   rises-insert_new [] x up = (tt, tt)
   rises-insert_new (y ∷ ys) x up =

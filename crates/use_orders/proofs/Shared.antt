@@ -7,13 +7,13 @@ use Rattle.use_orders.specs.Canon.{has, common_of, without_one, Progress}
 use Rattle.use_orders.proofs.Bags.{Ascends, Ascends-from_sort, all_weaker, under, turned}
 use Rattle.use_orders.proofs.Sets.{has_below}
 
-opened : {K : Type 0} (xs : List K) (i : ℕ) (x : K) → i < length xs → x ≡ get_or xs i x → drop i xs ≡ x ∷ drop (i + 1) xs
+pub opened : {K : Type 0} (xs : List K) (i : ℕ) (x : K) → i < length xs → x ≡ get_or xs i x → drop i xs ≡ x ∷ drop (i + 1) xs
 opened xs i x l at =
     let n : suc i ≡ i + 1 = omega arith in
     drop-cons xs i x l ∙ ap₂ (λ v m. v ∷ drop m xs) (sym at) n
 
 module _ {K : Type 0} (cmp : K → K → Ordering) where
-  Ascends-drop : (n : ℕ) (xs : List K) → Ascends cmp xs → Ascends cmp (drop n xs)
+  pub Ascends-drop : (n : ℕ) (xs : List K) → Ascends cmp xs → Ascends cmp (drop n xs)
   unfolding Ascends
   Ascends-drop zero xs up = up
   Ascends-drop (suc n) [] up = up
@@ -28,7 +28,7 @@ module _ {K : Type 0} (cmp : K → K → Ordering) where
   ended xs ys (inr e) = ap (common_of cmp xs) e ∙ none_common xs
 
   module _ (o : IsTotalOrder cmp) where
-    above : (x y : K) (ys : List K) → cmp x y ≡ Less → Ascends cmp (y ∷ ys) → AllByRecursion (λ w. cmp x w ≡ Less) (y ∷ ys)
+    pub above : (x y : K) (ys : List K) → cmp x y ≡ Less → Ascends cmp (y ∷ ys) → AllByRecursion (λ w. cmp x w ≡ Less) (y ∷ ys)
     unfolding Ascends
     above x y ys l up = (l, all_weaker (λ w. is_gt (cmp y w) ≡ false) (λ w. cmp x w ≡ Less) (λ w g. under cmp o x y w (cmp y w) refl g l) ys up.0)
 

@@ -1,7 +1,7 @@
 ghost use Rattle.std.specs.Prelude.{◌≡◌, ◌==◌, IsSorted, ◌++◌, ◌+◌, ◌<◌, ◌≤◌, not, filter, drop, length, IfOk, true, false, Bool};
 ghost use Rattle.std.specs.Set.{sorted_merge};
 ghost use Rattle.std.specs.FinMap.{IsAntisymmetric};
-ghost use Rattle.use_orders.specs.Canon.{Progress, answers, common_of, has, set_of, within, without};
+ghost use Rattle.use_orders.specs.Canon.{Progress, answers, has, set_of, within, without};
 
 use crate::{TryCopy, append_copies, contains};
 use std::alloc::{AllocError, Global};
@@ -39,7 +39,7 @@ fn merge_one<T: Ord + TryCopy + Drop>(
 fn merge<T: Ord + TryCopy + Drop>(alloc: Global, a: &[T], b: &[T]) -> Result<Vec<T>, AllocError>
     ensures { IfOk result (λ v. v.items ≡ sorted_merge T.cmp true a.now b.now) }
 {
-    let mut out = Vec::new(alloc);
+    let mut out = Vec::with_capacity(alloc, a.len())?;
     let mut i = 0;
     let mut j = 0;
     'merge: while i < a.len() && j < b.len() {
@@ -119,50 +119,4 @@ pub fn without<T: Ord + TryCopy + Drop>(
     ensures { IfOk result (λ v. v.items ≡ without T.cmp a.now b.now) }
 {
     kept(alloc, false, a, b)
-}
-
-// Of two lists in order, passes what comes first, and takes what both have.
-fn common_one<T: Ord + TryCopy + Drop>(
-    alloc: Global,
-    a: &[T],
-    b: &[T],
-    i: usize,
-    j: usize,
-    out: &mut Vec<T>,
-) -> Result<(usize, usize), AllocError>
-    requires first { IsSorted T.cmp a.now }
-    requires second { IsSorted T.cmp b.now }
-    requires in_a { i < length a.now }
-    requires in_b { j < length b.now }
-    ensures { IfOk result (λ next. Progress (common_of T.cmp) a.now b.now i j out.old.items next.0 next.1 out.new.items) }
-{
-    match a[i].cmp(&b[j]) {
-        Ordering::Less => Ok((i + 1, j)),
-        Ordering::Equal => {
-            out.push(a[i].try_copy(alloc)?)?;
-            Ok((i + 1, j + 1))
-        }
-        Ordering::Greater => Ok((i, j + 1)),
-    }
-}
-
-/// What two lists in order share, each as often as the list that has fewer of it.
-pub fn common<T: Ord + TryCopy + Drop>(
-    alloc: Global,
-    a: &[T],
-    b: &[T],
-) -> Result<Vec<T>, AllocError>
-    requires first { IsSorted T.cmp a.now }
-    requires second { IsSorted T.cmp b.now }
-    ensures { IfOk result (λ v. v.items ≡ common_of T.cmp a.now b.now) }
-{
-    let mut out = Vec::new(alloc);
-    let mut i = 0;
-    let mut j = 0;
-    'walk: while i < a.len() && j < b.len() {
-        let (next_i, next_j) = common_one(alloc, a, b, i, j, &mut out)?;
-        i = next_i;
-        j = next_j;
-    }
-    Ok(out)
 }

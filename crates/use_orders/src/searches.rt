@@ -18,7 +18,7 @@ pub fn contains_anywhere<T: Ord>(items: &[T], x: &T) -> bool
 }
 
 // How many elements of a list in order are below `x`.
-fn below<T: Ord>(items: &[T], x: &T) -> usize
+pub(crate) fn below<T: Ord>(items: &[T], x: &T) -> usize
     requires sorted { IsSorted T.cmp items.now }
     ensures { result ≡ count_by (λ y. is_lt (T.cmp y x.now)) items.now }
 {
@@ -26,7 +26,7 @@ fn below<T: Ord>(items: &[T], x: &T) -> usize
 }
 
 // How many elements of a list in order are not above `x`.
-fn up_to<T: Ord>(items: &[T], x: &T) -> usize
+pub(crate) fn up_to<T: Ord>(items: &[T], x: &T) -> usize
     requires sorted { IsSorted T.cmp items.now }
     ensures { result ≡ count_by (λ y. is_le (T.cmp y x.now)) items.now }
 {

@@ -1,7 +1,7 @@
 use Rattle.std.proofs.Common.{◌++◌, inl, inr, ap, sym, ◌∙◌, append-nil, drop_of_length-le, drop}
 use Rattle.use_orders.proofs.Shared.{ended}
-use Rattle.use_orders.proofs.merges.common.Goals as goal
-use Rattle.use_orders.proofs.merges.common.Goals.{then-walk-test+else-j-b, else-walk-test}
+use Rattle.use_orders.proofs.overlap.common.Goals as goal
+use Rattle.use_orders.proofs.overlap.common.Goals.{then-walk-test+else-j-b, else-walk-test}
 
 pub returns : goal.returns
 returns g c =

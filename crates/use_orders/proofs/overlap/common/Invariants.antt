@@ -1,6 +1,6 @@
 use Rattle.std.proofs.Common.{length, ◌-◌, ◌≡◌, ◌++◌, ◌+◌, ◌≤◌, drop}
 use Rattle.use_orders.specs.Canon.{common_of}
-use Rattle.use_orders.proofs.merges.common.Given as goal
+use Rattle.use_orders.proofs.overlap.common.Given as goal
 
 abbrev pub invariant-walk : goal.invariant-walk
 invariant-walk g l = record {
