@@ -1,5 +1,5 @@
 -- The parts of the nodes of commands.
-use Rattle.std.specs.Prelude.{Option, Some, None}
+use Rattle.std.specs.Prelude.{Option, Some}
 use Rattle.grammar_core.specs.Trees.{ParseTree}
 use Rattle.use_text.specs.declared.token.TokenKind.TheVariants as k
 use Rattle.use_syntax.specs.declared.rule.Rule.TheVariants as r

@@ -1,10 +1,10 @@
 -- The parts of the nodes of models.
-use Rattle.std.specs.Prelude.{Option, Some, None}
+use Rattle.std.specs.Prelude.{Option, Some}
 use Rattle.grammar_core.specs.Trees.{ParseTree}
 use Rattle.use_text.specs.declared.token.TokenKind.TheVariants as k
 use Rattle.use_syntax.specs.declared.rule.Rule.TheVariants as r
 use Rattle.use_nodes.specs.declared.parts.Select.TheVariants as s
-use Rattle.use_nodes.specs.Nodes.{and_then, behind, child, has, of, part, parts, second, second_but}
+use Rattle.use_nodes.specs.Nodes.{and_then, behind, child, has, of, part, parts, second_but}
 use Rattle.use_nodes.specs.declared.models.EnumNode.{EnumNode}
 use Rattle.use_nodes.specs.declared.models.ParamNode.{ParamNode}
 use Rattle.use_nodes.specs.declared.models.ParamsNode.{ParamsNode}

@@ -1,10 +1,10 @@
 -- The parts of the nodes of statements.
-use Rattle.std.specs.Prelude.{Option, Some, None}
+use Rattle.std.specs.Prelude.{Option, Some}
 use Rattle.grammar_core.specs.Trees.{ParseTree}
 use Rattle.use_text.specs.declared.token.TokenKind.TheVariants as k
 use Rattle.use_syntax.specs.declared.rule.Rule.TheVariants as r
 use Rattle.use_nodes.specs.declared.parts.Select.TheVariants as s
-use Rattle.use_nodes.specs.Nodes.{and_then, behind, child, of, part, parts, second}
+use Rattle.use_nodes.specs.Nodes.{and_then, behind, child, of, part, parts}
 use Rattle.use_nodes.specs.declared.statements.BlockNode.{BlockNode}
 use Rattle.use_nodes.specs.declared.statements.NewNode.{NewNode}
 use Rattle.use_nodes.specs.declared.statements.RhsNode.{RhsNode}
