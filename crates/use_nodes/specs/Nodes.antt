@@ -1,9 +1,11 @@
 -- Nodes of a tree, by their rules and tokens and by where they stand.
 use Rattle.std.specs.Prelude.{ℕ, ◌==◌, ◌&&◌, ◌||◌, Bool, true, false, not, length, if◌then◌else◌, List, [], ◌∷◌, filter, Option, Some, None, is_some, slice_get}
 use Rattle.grammar_core.specs.Trees.{ParseTree, leaf, node, below, place_of}
+use Rattle.use_text.specs.declared.place.Place.{Place}
 use Rattle.use_text.specs.declared.token.Token.{Token}
 use Rattle.use_text.specs.declared.token.TokenKind.{TokenKind}
 use Rattle.use_text.specs.Kinds.{number_of}
+use Rattle.use_text.specs.Places.{place_at}
 use Rattle.use_syntax.specs.declared.rule.Rule.{Rule}
 use Rattle.use_syntax.specs.declared.rule.Rule.TheVariants as r
 use Rattle.use_syntax.specs.Numbers.{number_of_rule}
@@ -87,3 +89,8 @@ token_in ts t = and_then (place_of t) (slice_get ts)
 -- what is there of a node of this rule; of another there is nothing
 abbrev pub of : {A : Type 0} → Rule → ParseTree → Option A → Option A
 of rule t parts = if is_rule rule t then parts else None
+
+-- the place of the first token; a text without tokens begins at the front of its first line
+abbrev pub place_of_first : ℕ → List Token → Place
+place_of_first line [] = place_at line 1
+place_of_first line (t ∷ ts) = t.place

@@ -3,6 +3,7 @@
 
 mod commands;
 mod expressions;
+mod first;
 mod law;
 mod models;
 mod node;
@@ -18,6 +19,7 @@ pub use expressions::{
     ArgsNode, ArrowNode, BindNode, ChainNode, ChoiceNode, CollectionNode, DotNode, GroupNode,
     ItemNode, LetNode, LiteralNode, NamedNode, PartNode, PostfixNode, PrimaryNode, UnaryNode,
 };
+pub use first::place_of_first;
 pub use law::trees_are_whole;
 pub use models::{
     AssocEndNode, AssocNode, AttributeNode, ClassNode, CondNode, ConstraintsNode, ContextNode,

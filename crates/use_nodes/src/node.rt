@@ -43,7 +43,7 @@ impl<'a> NodeRef<'a> {
     }
 
     /// The same node.
-    pub fn again(&self) -> NodeRef<'a>
+    pub fn copy(&self) -> NodeRef<'a>
         ensures { result ≡ self.now }
     {
         NodeRef {
@@ -172,7 +172,7 @@ impl<'a> NodeRef<'a> {
         ensures { result ≡ through rules.now self.now }
     {
         match rules {
-            [] => Some(self.again()),
+            [] => Some(self.copy()),
             [first, rest @ ..] => self.alone(*first)?.through(rest),
         }
     }

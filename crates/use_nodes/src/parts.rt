@@ -68,11 +68,11 @@ impl<'a> Iterator for Parts<'a> {
 
 impl<'a> Parts<'a> {
     /// The same nodes.
-    pub fn again(&self) -> Parts<'a>
+    pub fn copy(&self) -> Parts<'a>
         ensures { result ≡ self.now }
     {
         Parts {
-            node: self.node.again(),
+            node: self.node.copy(),
             at: self.at,
             select: self.select,
         }
@@ -98,7 +98,7 @@ impl<'a> NodeRef<'a> {
         ensures { result ≡ parts select self.now }
     {
         Parts {
-            node: self.again(),
+            node: self.copy(),
             at: 0,
             select,
         }

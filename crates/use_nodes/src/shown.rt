@@ -15,7 +15,7 @@ impl fmt::Debug for Parts<'_> {
     /// The nodes that are left.
     fn fmt<W: fmt::Write>(&self, f: &mut fmt::Formatter<W>) -> fmt::Result {
         f.write_str("[")?;
-        'nodes: for node in self.again() {
+        'nodes: for node in self.copy() {
             write!(f, " {node:?}")?;
         }
         f.write_str(" ]")

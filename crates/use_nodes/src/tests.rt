@@ -2,6 +2,7 @@ use super::*;
 use std::alloc::{AllocError, Global};
 use std::test::Fail;
 use use_syntax::{Parsed, Rule, grammar, read_command, read_model};
+use use_text::{Place, TokenKind};
 
 // The parts of a node of names and types.
 fn parts_of_types(alloc: Global, node: &NodeRef<'_>, rule: Rule) -> Result<String, AllocError> {
@@ -131,7 +132,7 @@ const STATEMENT: &[Rule] = &[Rule::Execute, Rule::Block, Rule::Stmt];
 
 // The node below, by the first one of each rule.
 fn below<'a>(node: &NodeRef<'a>, path: &[Rule]) -> Option<NodeRef<'a>> {
-    let mut node = node.again();
+    let mut node = node.copy();
     'rules: for rule in path {
         node = node.part(Select::Rule(*rule))?;
     }
@@ -855,5 +856,61 @@ fn nodes_of_commands_have_their_parts(rt: HostRuntime) -> Result<(), Fail> {
 #[test]
 fn nodes_of_models_have_their_parts(rt: HostRuntime) -> Result<(), Fail> {
     assert!(rt; first_other(rt.alloc(), Family::Models, MODELS)?.is_none());
+    Ok(())
+}
+
+// Whether the query of `? 1 + 2` is told by its question mark.
+fn is_query(parsed: &Parsed) -> Option<bool> {
+    let root = NodeRef::root(&parsed.tree);
+    let query = root.child(0)?;
+    let mark = query.child(0)?;
+    let token = mark.token_in(parsed.tokens.as_slice())?;
+    Some(
+        root.is_node()
+            && root.is_rule(Rule::Command)
+            && root.len() == 2
+            && query.has(TokenKind::Question)
+            && mark.is_token(TokenKind::Question)
+            && mark.token()? == 0
+            && token.end == 1,
+    )
+}
+
+// Whether the sum of `? 1 + 2` has two operands and one `+`.
+fn is_sum(parsed: &Parsed) -> Option<bool> {
+    let query = NodeRef::root(&parsed.tree).child(0)?;
+    let expression = query.second_but(TokenKind::Question)?;
+    let rules = &[
+        Rule::Xors,
+        Rule::Ors,
+        Rule::Ands,
+        Rule::Eqs,
+        Rule::Rels,
+        Rule::Sums,
+    ];
+    let sums = expression.through(rules)?;
+    let mut operands = sums.parts(Select::Rule(Rule::Muls));
+    operands.next()?;
+    operands.next()?;
+    Some(
+        expression.alone(Rule::Sums).is_none()
+            && operands.next().is_none()
+            && sums.behind(TokenKind::Plus)?.is_rule(Rule::Muls)
+            && sums.second(TokenKind::Plus).is_none(),
+    )
+}
+
+#[test]
+fn nodes_are_told_by_rule_token_and_place(rt: HostRuntime) -> Result<(), Fail> {
+    let alloc = rt.alloc();
+    if let Some(parsed) = read(alloc, Family::Commands, "? 1 + 2")? {
+        assert_eq!(rt; is_query(&parsed), Some(true));
+        assert_eq!(rt; is_sum(&parsed), Some(true));
+        assert_eq!(rt;
+            place_of_first(7, parsed.tokens.as_slice()),
+            Place { line: 1, col: 1 }
+        );
+    }
+    assert_eq!(rt; place_of_first(7, &[]), Place { line: 7, col: 1 });
     Ok(())
 }

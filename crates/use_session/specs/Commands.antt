@@ -17,7 +17,7 @@ use Rattle.use_syntax.specs.declared.rule.Rule.TheVariants as r
 use Rattle.use_syntax.specs.Reading.{Reading, parsed, refused, read_command}
 use Rattle.use_nodes.specs.declared.commands.CommandNode.{CommandNode}
 use Rattle.use_nodes.specs.declared.commands.QueryNode.{QueryNode}
-use Rattle.use_nodes.specs.Nodes.{and_then, child, has, is_token, through, token_in}
+use Rattle.use_nodes.specs.Nodes.{and_then, child, has, is_token, place_of_first, through, token_in}
 use Rattle.use_nodes.specs.CommandNodes.{command_node, query_node}
 use Rattle.use_nodes.specs.ExpressionNodes.{chain_node}
 use Rattle.use_session.specs.declared.command.Command.{Command}
@@ -75,10 +75,6 @@ command_of_form place text ts (Some form) = query_of place (and_then (query_node
 abbrev pub command_of_parts : Place → List ℕ → List Token → Option CommandNode → Command
 command_of_parts place text ts None = unbuilt place
 command_of_parts place text ts (Some command) = command_of_form place text ts command.form
-
-abbrev pub place_of_first : ℕ → List Token → Place
-place_of_first line [] = place_at line 1
-place_of_first line (t ∷ ts) = t.place
 
 abbrev pub command_of_reading : ℕ → List ℕ → Reading → Command
 command_of_reading line text (parsed ts tree) = command_of_parts (place_of_first line ts) text ts (command_node tree)

@@ -7,16 +7,16 @@ ghost use Rattle.use_text.specs.Tokens.{IsWithin};
 ghost use Rattle.grammar_core.specs.Arena.{root_tree};
 ghost use Rattle.use_syntax.specs.Language.{language};
 ghost use Rattle.use_syntax.specs.Reading.{read_command};
-ghost use Rattle.use_nodes.specs.Nodes.{and_then};
+ghost use Rattle.use_nodes.specs.Nodes.{and_then, place_of_first};
 ghost use Rattle.use_nodes.specs.CommandNodes.{command_node, query_node};
-ghost use Rattle.use_session.specs.Commands.{command_of, command_of_text, command_of_reading, command_of_parts, command_of_form, place_of_first, query_numbers, query_of, unbuilt, AddsUp};
+ghost use Rattle.use_session.specs.Commands.{command_of, command_of_text, command_of_reading, command_of_parts, command_of_form, query_numbers, query_of, unbuilt, AddsUp};
 
 use crate::file_word::{first_place, opens_file};
 use crate::sum::query_numbers;
 use grammar_core::Grammar;
 use std::alloc::{AllocError, Global};
 use use_lists::Items;
-use use_nodes::{CommandNode, NodeRef, QueryNode};
+use use_nodes::{CommandNode, NodeRef, QueryNode, place_of_first};
 use use_syntax::{Parsed, SyntaxFault, read_command};
 use use_text::{Code, Cut, Fate, Place, Refusal, Token};
 
@@ -119,16 +119,6 @@ fn read_parsed(
         Ok(parsed) => read_tree(alloc, &parsed, line),
         Err(SyntaxFault::Refused(refusal)) => Ok(Command::Refused(refusal)),
         Err(SyntaxFault::Memory) => Err(AllocError),
-    }
-}
-
-/// The place of the first token.
-fn place_of_first(line: u32, tokens: &[Token]) -> Place
-    ensures { result ≡ place_of_first line tokens.now }
-{
-    match tokens.first() {
-        Some(token) => token.place,
-        None => Place { line, col: 1 },
     }
 }
 

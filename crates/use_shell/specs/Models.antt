@@ -1,6 +1,5 @@
 -- Model files.
-use Rattle.std.specs.Prelude.{ℕ, Bool, false, nat_lt, if◌then◌else◌, List, [], ◌∷◌, length, Option, Some, None, is_none, slice_get}
-use Rattle.use_text.specs.declared.token.Token.{Token}
+use Rattle.std.specs.Prelude.{ℕ, Bool, false, nat_lt, if◌then◌else◌, List, length, Option, Some, None, is_none, slice_get}
 use Rattle.use_text.specs.declared.refusal.Refusal.{Refusal}
 use Rattle.use_text.specs.declared.code.Family.TheVariants.{F, S}
 use Rattle.use_text.specs.Codes.{code_of}
@@ -10,6 +9,7 @@ use Rattle.use_text.specs.Refusals.{refusal_at}
 use Rattle.grammar_core.specs.Trees.{ParseTree}
 use Rattle.use_syntax.specs.Reading.{Reading, parsed, refused, read_model}
 use Rattle.use_nodes.specs.declared.models.FileNode.{FileNode}
+use Rattle.use_nodes.specs.Nodes.{place_of_first}
 use Rattle.use_nodes.specs.ModelNodes.{file_node}
 
 -- the most bytes of a model file
@@ -25,16 +25,12 @@ is_empty_model (Some file) = is_none (slice_get file.declarations 0)
 abbrev pub unbuilt : Place → Option Refusal
 unbuilt place = Some (refusal_at (code_of S 0) place)
 
-abbrev pub place_of_first : List Token → Place
-place_of_first [] = place_at 1 1
-place_of_first (t ∷ ts) = t.place
-
 -- the place of what is not built is that of the first token
 abbrev pub refusal_of_tree : Place → ParseTree → Option Refusal
 refusal_of_tree place tree = if is_empty_model (file_node tree) then None else unbuilt place
 
 abbrev pub refusal_of_reading : Reading → Option Refusal
-refusal_of_reading (parsed ts tree) = refusal_of_tree (place_of_first ts) tree
+refusal_of_reading (parsed ts tree) = refusal_of_tree (place_of_first 1 ts) tree
 refusal_of_reading (refused r) = Some r
 
 -- why a model file is refused, if it is: there is none, it is too long, a rule of tokens or grammar is broken, or its form is not built yet

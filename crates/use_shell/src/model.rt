@@ -6,15 +6,16 @@ ghost use Rattle.use_text.specs.Refusals.{refusal_at};
 ghost use Rattle.grammar_core.specs.Arena.{root_tree};
 ghost use Rattle.use_syntax.specs.Language.{language};
 ghost use Rattle.use_syntax.specs.Reading.{read_model};
-ghost use Rattle.use_shell.specs.Models.{is_empty_model, place_of_first, refusal_of_tree, unbuilt, refusal_of_reading, model_refusal};
+ghost use Rattle.use_nodes.specs.Nodes.{place_of_first};
+ghost use Rattle.use_shell.specs.Models.{is_empty_model, refusal_of_tree, unbuilt, refusal_of_reading, model_refusal};
 
 use crate::stop::Stop;
 use grammar_core::{Grammar, GrammarFault};
 use std::alloc::Global;
 use use_io::{Shelf, ShelfFault};
-use use_nodes::{FileNode, NodeRef};
+use use_nodes::{FileNode, NodeRef, place_of_first};
 use use_syntax::{Parsed, SyntaxFault, grammar, read_model};
-use use_text::{Code, Place, Refusal, Token};
+use use_text::{Code, Place, Refusal};
 
 /// The most bytes of a model file.
 const MAX_MODEL: u32 = 4_194_304;
@@ -32,24 +33,14 @@ fn is_empty_model(file: Option<FileNode<'_>>) -> bool
     }
 }
 
-/// The place of the first token.
-fn place_of_first(tokens: &[Token]) -> Place
-    ensures { result ≡ place_of_first tokens.now }
-{
-    match tokens.first() {
-        Some(token) => token.place,
-        None => Place { line: 1, col: 1 },
-    }
-}
-
 /// Why a model that was read is refused, if it is.
 fn refusal_of_tree(parsed: &Parsed) -> Option<Refusal>
-    ensures { result ≡ refusal_of_tree (place_of_first parsed.now.tokens) (root_tree parsed.now.tree) }
+    ensures { result ≡ refusal_of_tree (place_of_first 1 parsed.now.tokens) (root_tree parsed.now.tree) }
 {
     if is_empty_model(FileNode::of(&NodeRef::root(&parsed.tree))) {
         None
     } else {
-        unbuilt(place_of_first(parsed.tokens.as_slice()))
+        unbuilt(place_of_first(1, parsed.tokens.as_slice()))
     }
 }
 
