@@ -1,4 +1,4 @@
--- Commands, as they are read from their tokens.
+-- Commands, as they are read from their trees.
 use Rattle.std.specs.Prelude.{ℕ, ◌&&◌, not, true, nat_le, if◌then◌else◌, Bool, codes, take, drop, List, [], ◌∷◌, length, Option, Some, None, is_some, ℤ, slice_range, All, ⊤}
 use Rattle.std.specs.Int.{IsNonNegative}
 use Rattle.use_text.specs.declared.cut.Cut.{Cut}
