@@ -12,9 +12,9 @@ use Rattle.ocl_values.specs.declared.value.Kind.TheVariants.{Set, OrderedSet, Ba
 use Rattle.ocl_values.specs.declared.value.Value.{Value}
 use Rattle.ocl_values.specs.declared.value.Value.TheVariants.{Coll, Invalid}
 use Rattle.ocl_values.proofs.Exact.{value_exact, value_total}
-use Rattle.ocl_collections.specs.Adding.{is_unfit}
 use Rattle.ocl_collections.specs.SetAlgebra.{union_kind}
-use Rattle.ocl_collections.proofs.Parts.{IsPart, neither, low_from, parts_of, canon_is}
+use Rattle.ocl_values.proofs.Elements.{IsPart, neither, parts_of}
+use Rattle.ocl_collections.proofs.Parts.{low_from, canon_is}
 use Rattle.ocl_collections.proofs.Rising.{kept_of, set_up, bag_up}
 
 pub both : {X : Type 0} (P : X → Type 0) (xs ys : List X) → AllByRecursion P xs → AllByRecursion P ys → AllByRecursion P (xs ++ ys)
@@ -26,7 +26,10 @@ of_parts kind vs l all is = ap (Coll kind) is ∙ sym (canon_is kind vs all)
 
 -- one element more
 
-part_of : (x : Value) → IsWellMade x → is_unfit x ≡ false → IsPart x
+abbrev pub is_unfit : Value → Bool
+is_unfit x = is_invalid x || nat_le 256 (levels_of x)
+
+pub part_of : (x : Value) → IsWellMade x → is_unfit x ≡ false → IsPart x
 part_of x well fit =
     let split = neither (is_invalid x) (nat_le 256 (levels_of x)) fit in
     (well.tidy, split.0, low_from (levels_of x) split.1)
@@ -42,30 +45,33 @@ either : (a b : Bool) → (a || b) ≡ true → (a ≡ true) ⊎ (b ≡ true)
 either true b e = inl refl
 either false b e = inr e
 
-invalid_end : (xs : List Value) (x : Value) → is_invalid x ≡ true → some_invalid (xs ++ x ∷ []) ≡ true
-invalid_end [] x e = ap (λ b. b || false) e
-invalid_end (y ∷ ys) x e = ap (λ b. is_invalid y || b) (invalid_end ys x e) ∙ or_true (is_invalid y)
+invalid_in : (xs : List Value) (x : Value) (ys : List Value) → is_invalid x ≡ true → some_invalid (xs ++ x ∷ ys) ≡ true
+invalid_in [] x ys e = ap (λ b. b || some_invalid ys) e
+invalid_in (y ∷ xs) x ys e = ap (λ b. is_invalid y || b) (invalid_in xs x ys e) ∙ or_true (is_invalid y)
 
-levels_end : (xs : List Value) (x : Value) → levels_of x ≤ most_levels (xs ++ x ∷ [])
-levels_end [] x = omega arith
-levels_end (y ∷ ys) x =
-    let rest = levels_end ys x in
+levels_in : (xs : List Value) (x : Value) (ys : List Value) → levels_of x ≤ most_levels (xs ++ x ∷ ys)
+levels_in [] x ys = omega arith
+levels_in (y ∷ xs) x ys =
+    let rest = levels_in xs x ys in
     omega (arith, rest)
 
-deep_end : (xs : List Value) (x : Value) → nat_le 256 (levels_of x) ≡ true → nat_le 256 (most_levels (xs ++ x ∷ [])) ≡ true
-deep_end xs x e =
-    let within = levels_end xs x in
+deep_in : (xs : List Value) (x : Value) (ys : List Value) → nat_le 256 (levels_of x) ≡ true → nat_le 256 (most_levels (xs ++ x ∷ ys)) ≡ true
+deep_in xs x ys e =
+    let within = levels_in xs x ys in
     grind (arith, within, e)
 
-unfit_end : (xs : List Value) (x : Value) → is_unfit x ≡ true → (some_invalid (xs ++ x ∷ []) || nat_le 256 (most_levels (xs ++ x ∷ []))) ≡ true
-unfit_end xs x e =
+unfit_in : (xs : List Value) (x : Value) (ys : List Value) → is_unfit x ≡ true → (some_invalid (xs ++ x ∷ ys) || nat_le 256 (most_levels (xs ++ x ∷ ys))) ≡ true
+unfit_in xs x ys e =
     ⊎_elim
-    (λ i. ap (λ b. b || nat_le 256 (most_levels (xs ++ x ∷ []))) (invalid_end xs x i))
-    (λ d. ap (λ b. some_invalid (xs ++ x ∷ []) || b) (deep_end xs x d) ∙ or_true (some_invalid (xs ++ x ∷ [])))
+    (λ i. ap (λ b. b || nat_le 256 (most_levels (xs ++ x ∷ ys))) (invalid_in xs x ys i))
+    (λ d. ap (λ b. some_invalid (xs ++ x ∷ ys) || b) (deep_in xs x ys d) ∙ or_true (some_invalid (xs ++ x ∷ ys)))
     (either (is_invalid x) (nat_le 256 (levels_of x)) e)
 
+pub none_with : (kind : Kind) (xs : List Value) (x : Value) (ys : List Value) → is_unfit x ≡ true → Invalid ≡ canon kind (xs ++ x ∷ ys)
+none_with kind xs x ys e = sym (ap (λ b. cond b Invalid (Coll kind (canonical kind (xs ++ x ∷ ys)))) (unfit_in xs x ys e))
+
 pub none_added : (kind : Kind) (xs : List Value) (x : Value) → is_unfit x ≡ true → Invalid ≡ canon kind (xs ++ x ∷ [])
-none_added kind xs x e = sym (ap (λ b. cond b Invalid (Coll kind (canonical kind (xs ++ x ∷ [])))) (unfit_end xs x e))
+none_added kind xs x e = none_with kind xs x [] e
 
 -- without an element
 

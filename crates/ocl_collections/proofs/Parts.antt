@@ -13,23 +13,16 @@ use Rattle.ocl_values.specs.declared.value.Value.TheVariants.{Coll, Invalid}
 use Rattle.ocl_values.specs.Logic.{is_invalid}
 use Rattle.ocl_values.specs.Shape.{levels_of, most_levels, canonical, canon, some_invalid, IsTidy, IsWellMade}
 use Rattle.ocl_values.proofs.Exact.{value_exact, value_total}
-use Rattle.ocl_values.proofs.Rows.{levels_of-Coll, tidy_Coll, row_of_tidy}
+use Rattle.ocl_values.proofs.Rows.{levels_of-Coll, tidy_Coll}
+use Rattle.ocl_values.proofs.Elements.{IsPart, neither, parts_of}
 
--- what a collection may hold
-abbrev pub IsPart : Value → Type 0
-IsPart v = IsTidy v × (is_invalid v ≡ false) × (levels_of v ≤ 255)
-
-pub neither : (a b : Bool) → (a || b) ≡ false → (a ≡ false) × (b ≡ false)
-neither true b e = absurd (true≢false e)
-neither false b e = (refl, e)
-
-parts : (vs : List Value) → AllByRecursion IsWellMade vs → some_invalid vs ≡ false → most_levels vs ≤ 255 → AllByRecursion IsPart vs
+pub parts : (vs : List Value) → AllByRecursion IsWellMade vs → some_invalid vs ≡ false → most_levels vs ≤ 255 → AllByRecursion IsPart vs
 parts [] all none low = tt
 parts (v ∷ vs) all none low =
     let split = neither (is_invalid v) (some_invalid vs) none in
     ((all.0.tidy, split.0, omega arith), parts vs all.1 split.1 (omega arith))
 
-all_kept : (kind : Kind) (P : Value → Type 0) (vs : List Value) → AllByRecursion P vs → AllByRecursion P (canonical kind vs)
+pub all_kept : (kind : Kind) (P : Value → Type 0) (vs : List Value) → AllByRecursion P vs → AllByRecursion P (canonical kind vs)
 all_kept Set P vs all = all_set value_total P vs all
 all_kept OrderedSet P vs all = all_firsts value_cmp P vs all
 all_kept Bag P vs all = all_bag value_cmp P vs all
@@ -82,27 +75,10 @@ well_canon kind vs all =
     let split = neither (some_invalid vs) (nat_le 256 (most_levels vs)) e in
     parts_well kind vs (canonical kind vs) (parts vs all split.0 (low_from (most_levels vs) split.1)) refl)
 
-pub parts_in : (vs : List Value) → AllByRecursion IsTidy vs → some_invalid vs ≡ false → most_levels vs ≤ 255 → AllByRecursion IsPart vs
-parts_in [] all none low = tt
-parts_in (v ∷ vs) all none low =
-    let split = neither (is_invalid v) (some_invalid vs) none in
-    ((all.0, split.0, omega arith), parts_in vs all.1 split.1 (omega arith))
-
-pub parts_of : (kind : Kind) (all : List Value) → IsWellMade (Coll kind all) → AllByRecursion IsPart all
-parts_of kind all well =
-    let row = row_of_tidy kind all well.tidy in
-    let levels = levels_of-Coll kind all in
-    let most = well.levels in
-    parts_in all row.each row.none (omega (arith, levels, most))
-
-pub part_well : (v : Value) → IsPart v → IsWellMade v
-part_well v part =
-    let low = part.2 in
-    record { tidy = part.0; levels = omega (arith, low) }
-
-pub parts_are_well : (vs : List Value) → AllByRecursion IsPart vs → AllByRecursion IsWellMade vs
-parts_are_well [] all = tt
-parts_are_well (v ∷ vs) all = (part_well v all.0, parts_are_well vs all.1)
+pub made_well : (kind : Kind) (vs l : List Value) → AllByRecursion IsWellMade vs → (some_invalid vs || nat_le 256 (most_levels vs)) ≡ false → l ≡ canonical kind vs → IsWellMade (Coll kind l)
+made_well kind vs l all fit is =
+    let split = neither (some_invalid vs) (nat_le 256 (most_levels vs)) fit in
+    parts_well kind vs l (parts vs all split.0 (low_from (most_levels vs) split.1)) is
 
 -- where all are parts, `canon` makes a collection
 pub canon_is : (kind : Kind) (vs : List Value) → AllByRecursion IsPart vs → canon kind vs ≡ Coll kind (canonical kind vs)
@@ -110,3 +86,7 @@ canon_is kind vs all =
     let deep = none_deep vs all in
     let low : nat_le 256 (most_levels vs) ≡ false = grind (arith, deep) in
     ap₂ (λ a b. cond (a || b) Invalid (Coll kind (canonical kind vs))) (none_invalid vs all) low
+
+-- a well-made collection is what `canon` makes of its elements
+pub canon_same : (kind : Kind) (vs : List Value) → IsWellMade (Coll kind vs) → canonical kind vs ≡ vs → canon kind vs ≡ Coll kind vs
+canon_same kind vs well same = canon_is kind vs (parts_of kind vs well) ∙ ap (Coll kind) same

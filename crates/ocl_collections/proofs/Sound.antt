@@ -21,12 +21,14 @@ use Rattle.ocl_collections.specs.declared.op.CollOp.{CollOp}
 use Rattle.ocl_collections.specs.declared.op.CollOp.TheVariants as C
 use Rattle.ocl_collections.specs.Arguments.{with_integer, with_collection}
 use Rattle.ocl_collections.specs.SetAlgebra.{union_kind, in_kind, intersection, difference, symmetric_difference}
-use Rattle.ocl_collections.specs.Positions.{put, insert_at, at, place_from, part, sub_sequence, sub_ordered_set}
+use Rattle.ocl_collections.specs.Positions.{holds, put, insert_at, at, place_from, part, sub_sequence, sub_ordered_set}
 use Rattle.ocl_collections.specs.Sums.{integer, joined_by}
 use Rattle.ocl_collections.specs.Flattening.{leaves, row_leaves, all_leaves}
 use Rattle.ocl_collections.specs.Sorting.{by_keys}
 use Rattle.ocl_collections.specs.Operations.{of_none, of_one, of_pair, of_two, of_collection, coll_op_value}
-use Rattle.ocl_collections.proofs.Parts.{well_Invalid, well_canon, parts_in, parts_of, parts_are_well}
+use Rattle.ocl_values.proofs.Elements.{parts_in, parts_of, parts_are_well}
+use Rattle.ocl_values.proofs.Rows.{levels_row, row_tidy}
+use Rattle.ocl_collections.proofs.Parts.{well_Invalid, well_canon}
 
 well_Int : (n : ℤ) → IsWellMade (Int n)
 well_Int n = record { tidy = tt; levels = omega arith }
@@ -152,10 +154,7 @@ inserted : (n : ℕ) (xs : List Value) (x : Value) → Wells xs → IsWellMade x
 inserted n xs x all one = both IsWellMade (take n xs) (x ∷ drop n xs) (taken IsWellMade n xs all) (one, dropped IsWellMade n xs all)
 
 well_put : (kind : Kind) (n : ℕ) (xs : List Value) (x : Value) → Wells xs → IsWellMade x → Wells (put kind n xs x)
-well_put K.Set n xs x all one = inserted n xs x all one
-well_put K.OrderedSet n xs x all one = cond_both (has value_cmp xs x) xs (take n xs ++ x ∷ drop n xs) Wells (λ _. all) (λ _. inserted n xs x all one)
-well_put K.Bag n xs x all one = inserted n xs x all one
-well_put K.Sequence n xs x all one = inserted n xs x all one
+well_put kind n xs x all one = cond_both (holds kind xs x) xs (take n xs ++ x ∷ drop n xs) Wells (λ _. all) (λ _. inserted n xs x all one)
 
 -- leaves
 
@@ -264,18 +263,10 @@ well_with_integer : (v : Value) (f : ℤ → Value) → ((n : ℤ) → IsWellMad
 well_with_integer (Int n) f well = well n
 well_with_integer _ f well = well_Invalid
 
-levels_row : {m : _} (row : Row_of-Value m) → row_levels row ≡ most_levels (items-the_row-Value m row)
-levels_row end_of-Value = refl
-levels_row (more_of-Value v rest) = ap (λ n. max (levels_of v) n) (levels_row rest)
-
-tidy_row : {m : _} (row : Row_of-Value m) → AreTidy row → AllByRecursion IsTidy (items-the_row-Value m row)
-tidy_row end_of-Value all = tt
-tidy_row (more_of-Value v rest) all = (all.0, tidy_row rest all.1)
-
 row_wells : {m : _} (row : Row_of-Value m) → AreTidy row → some_invalid (items-the_row-Value m row) ≡ false → 1 + row_levels row ≤ 256 → Wells (items-the_row-Value m row)
 row_wells {m} row tidy none low =
-    let same = levels_row row in
-    parts_are_well (items-the_row-Value m row) (parts_in (items-the_row-Value m row) (tidy_row row tidy) none (omega (arith, same, low)))
+    let same = levels_row m row in
+    parts_are_well (items-the_row-Value m row) (parts_in (items-the_row-Value m row) (row_tidy m row tidy) none (omega (arith, same, low)))
 
 well_with_collection : (v : Value) (f : Kind → List Value → Value) → IsWellMade v → ((kind : Kind) (all : List Value) → Wells all → IsWellMade (f kind all)) → IsWellMade (with_collection v f)
 well_with_collection (Coll' kind shape row) f well each = each kind (items-the_row-Value _ row) (row_wells row well.tidy.2 well.tidy.1 well.levels)

@@ -1,7 +1,6 @@
 -- Size and membership, by equality; null is an element like another.
-use Rattle.std.specs.Prelude.{ℕ, nat_eq, Bool, not, List, length}
-use Rattle.std.specs.List.{list_all}
-use Rattle.use_orders.specs.Canon.{has, times}
+use Rattle.std.specs.Prelude.{ℕ, nat_eq, Bool, List, length}
+use Rattle.use_orders.specs.Canon.{has, has_all, has_none, times}
 use Rattle.ocl_values.specs.Order.{value_cmp}
 use Rattle.ocl_values.specs.declared.value.Value.{Value}
 
@@ -16,7 +15,7 @@ abbrev pub count : List Value → Value → ℕ
 count xs x = times value_cmp xs x
 
 abbrev pub includes_all : List Value → List Value → Bool
-includes_all xs ys = list_all (λ y. includes xs y) ys
+includes_all xs ys = has_all value_cmp xs ys
 
 abbrev pub excludes_all : List Value → List Value → Bool
-excludes_all xs ys = list_all (λ y. not (includes xs y)) ys
+excludes_all xs ys = has_none value_cmp xs ys

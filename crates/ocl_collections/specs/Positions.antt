@@ -1,5 +1,6 @@
 -- Operations by place, of Sequences and OrderedSets. Places count from 1; one out of range makes the result invalid.
-use Rattle.std.specs.Prelude.{ℕ, ◌+◌, ◌-◌, nat_le, ◌&&◌, Bool, true, false, cond, if◌then◌else◌, List, [], ◌∷◌, ◌++◌, length, take, drop, reverse, slice_index_or, ℤ, pos, negsuc}
+use Rattle.std.specs.Prelude.{ℕ, ◌+◌, ◌-◌, nat_le, ◌&&◌, Bool, true, false, cond, if◌then◌else◌, ℤ, pos, negsuc}
+use Rattle.std.specs.Prelude.{List, [], ◌∷◌, ◌++◌, length, take, drop, reverse, slice_index_or}
 use Rattle.std.specs.Ordering.{is_eq}
 use Rattle.use_orders.specs.Canon.{has}
 use Rattle.ocl_values.specs.Order.{value_cmp}
@@ -16,10 +17,14 @@ has_places OrderedSet = true
 has_places Bag = false
 has_places Sequence = true
 
--- the elements with x behind the first n; an OrderedSet that has x stays as it is
+-- whether a collection of the kind has x and takes it no second time
+abbrev pub holds : Kind → List Value → Value → Bool
+holds OrderedSet xs x = has value_cmp xs x
+holds _ xs x = false
+
+-- the elements with x after the first n; an OrderedSet that has x stays as it is
 abbrev pub put : Kind → ℕ → List Value → Value → List Value
-put OrderedSet n xs x = cond (has value_cmp xs x) xs (take n xs ++ x ∷ drop n xs)
-put _ n xs x = take n xs ++ x ∷ drop n xs
+put kind n xs x = cond (holds kind xs x) xs (take n xs ++ x ∷ drop n xs)
 
 abbrev pub append : Kind → List Value → Value → Value
 append kind xs x = if has_places kind then canon kind (put kind (length xs) xs x) else Invalid

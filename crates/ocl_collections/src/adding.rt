@@ -1,17 +1,18 @@
 ghost use Rattle.std.specs.Prelude.{◌≡◌, ◌++◌, ◌∷◌, [], IfOk};
 ghost use Rattle.ocl_values.specs.Order.{value_cmp};
 ghost use Rattle.ocl_values.specs.Shape.{canonical, IsWellMade};
+ghost use Rattle.ocl_values.specs.declared.value.Kind.TheVariants.{Sequence};
 ghost use Rattle.ocl_values.specs.declared.value.Value.TheVariants.{Coll};
 ghost use Rattle.use_orders.specs.Canon.{add_new, without};
 ghost use Rattle.ocl_collections.specs.Adding.{excluding, including};
 
-use crate::made::{collected, is_unfit};
+use crate::making::{collection, is_unfit};
 use ocl_values::{Kind, Value};
 use std::alloc::{AllocError, Global};
 use std::slice;
 use use_orders::{contains_anywhere, copied};
 
-// The elements and x behind them.
+// The elements and then x.
 fn appended(alloc: Global, items: &[Value], x: &Value) -> Result<Vec<Value>, AllocError>
     ensures { IfOk result (λ v. v.items ≡ items.now ++ x.now ∷ []) }
 {
@@ -20,7 +21,7 @@ fn appended(alloc: Global, items: &[Value], x: &Value) -> Result<Vec<Value>, All
     Ok(all)
 }
 
-// The elements and, unless it is there, x behind them.
+// The elements and, unless it is there, then x.
 fn appended_once(alloc: Global, items: &[Value], x: &Value) -> Result<Vec<Value>, AllocError>
     ensures { IfOk result (λ v. v.items ≡ add_new value_cmp items.now x.now) }
 {
@@ -62,7 +63,21 @@ pub(crate) fn including(
     if is_unfit(x) {
         return Ok(Value::Invalid);
     }
-    Ok(collected(kind, with_element(alloc, kind, items, x)?))
+    Ok(collection(kind, with_element(alloc, kind, items, x)?))
+}
+
+// A Sequence with x at its end.
+pub(crate) fn push(alloc: Global, items: Vec<Value>, x: &Value) -> Result<Value, AllocError>
+    requires source { IsWellMade (Coll Sequence items.items) }
+    requires element { IsWellMade x.now }
+    ensures { IfOk result (λ v. v ≡ including Sequence items.items x.now) }
+{
+    if is_unfit(x) {
+        return Ok(Value::Invalid);
+    }
+    let mut all = items;
+    all.push(x.try_copy(alloc)?)?;
+    Ok(collection(Kind::Sequence, all))
 }
 
 // The elements of a collection but those that equal x.
@@ -91,5 +106,5 @@ pub(crate) fn excluding(
     requires { IsWellMade (Coll kind items.now) }
     ensures { IfOk result (λ v. v ≡ excluding kind items.now x.now) }
 {
-    Ok(collected(kind, without_element(alloc, kind, items, x)?))
+    Ok(collection(kind, without_element(alloc, kind, items, x)?))
 }

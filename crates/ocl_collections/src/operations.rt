@@ -7,8 +7,9 @@ ghost use Rattle.ocl_collections.specs.Operations.{coll_op_value, of_collection,
 
 use crate::CollOp;
 use crate::adding::{excluding, including};
-use crate::flatten::flattened;
-use crate::made::{any_invalid, made_of};
+use crate::conversion::converted;
+use crate::flattening::flattened;
+use crate::making::any_invalid;
 use crate::membership::{count, excludes_all, includes, includes_all};
 use crate::positions::{
     append, at, first, index_of, insert_at, last, prepend, reversed, sub_ordered_set, sub_sequence,
@@ -17,9 +18,16 @@ use crate::set_algebra::{difference, intersection, symmetric_difference, union};
 use crate::sums::{joined_by, sum};
 use ocl_values::{IntOp, Kind, Value};
 use std::alloc::{AllocError, Global};
+use use_orders::copied;
 
 // An operation without an argument.
-fn of_none(alloc: Global, op: CollOp, kind: Kind, items: &[Value]) -> Result<Value, AllocError>
+pub(crate) fn of_none(
+    alloc: Global,
+    op: CollOp,
+    kind: Kind,
+    items: &[Value],
+) -> Result<Value, AllocError>
+    requires { IsWellMade (Coll kind items.now) }
     ensures { IfOk result (λ v. v ≡ of_none op kind items.now) }
 {
     match op {
@@ -28,14 +36,14 @@ fn of_none(alloc: Global, op: CollOp, kind: Kind, items: &[Value]) -> Result<Val
         CollOp::NotEmpty => Ok(Value::Bool(!items.is_empty())),
         CollOp::First => first(alloc, kind, items),
         CollOp::Last => last(alloc, kind, items),
-        CollOp::Reverse => reversed(alloc, kind, items),
+        CollOp::Reverse => Ok(reversed(kind, copied(alloc, items)?)),
         CollOp::Sum => Ok(sum(items)),
         CollOp::Max => Ok(joined_by(IntOp::Max, items)),
         CollOp::Min => Ok(joined_by(IntOp::Min, items)),
-        CollOp::AsSet => made_of(alloc, Kind::Set, items),
-        CollOp::AsBag => made_of(alloc, Kind::Bag, items),
-        CollOp::AsSequence => made_of(alloc, Kind::Sequence, items),
-        CollOp::AsOrderedSet => made_of(alloc, Kind::OrderedSet, items),
+        CollOp::AsSet => converted(alloc, kind, Kind::Set, copied(alloc, items)?),
+        CollOp::AsBag => converted(alloc, kind, Kind::Bag, copied(alloc, items)?),
+        CollOp::AsSequence => converted(alloc, kind, Kind::Sequence, copied(alloc, items)?),
+        CollOp::AsOrderedSet => converted(alloc, kind, Kind::OrderedSet, copied(alloc, items)?),
         CollOp::Flatten => flattened(alloc, kind, items),
         _ => Ok(Value::Invalid),
     }
@@ -55,8 +63,8 @@ fn of_pair(
     ensures { IfOk result (λ v. v ≡ of_pair op kind items.now other others.now) }
 {
     match op {
-        CollOp::IncludesAll => Ok(Value::Bool(includes_all(kind, items, others))),
-        CollOp::ExcludesAll => Ok(Value::Bool(excludes_all(kind, items, others))),
+        CollOp::IncludesAll => Ok(Value::Bool(includes_all(alloc, kind, items, others)?)),
+        CollOp::ExcludesAll => Ok(Value::Bool(excludes_all(alloc, kind, items, others)?)),
         CollOp::Union => union(alloc, kind, items, other, others),
         CollOp::Intersection => intersection(alloc, kind, items, other, others),
         CollOp::Minus => difference(alloc, kind, items, other, others),
@@ -94,7 +102,7 @@ fn at_place(alloc: Global, kind: Kind, items: &[Value], place: &Value) -> Result
 }
 
 // An operation of one argument.
-fn of_one(
+pub(crate) fn of_one(
     alloc: Global,
     op: CollOp,
     kind: Kind,
@@ -128,6 +136,8 @@ fn of_two(
     x: &Value,
     y: &Value,
 ) -> Result<Value, AllocError>
+    requires source { IsWellMade (Coll kind items.now) }
+    requires second { IsWellMade y.now }
     ensures { IfOk result (λ v. v ≡ of_two op kind items.now x.now y.now) }
 {
     match (op, x, y) {
@@ -143,7 +153,7 @@ fn of_two(
 }
 
 // An operation of a collection, by the number of its arguments.
-fn of_collection(
+pub(crate) fn of_collection(
     alloc: Global,
     op: CollOp,
     kind: Kind,

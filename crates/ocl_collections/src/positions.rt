@@ -1,13 +1,12 @@
-ghost use Rattle.std.specs.Prelude.{◌≡◌, ◌≤◌, ◌++◌, ◌∷◌, IfOk, length, take, drop, slice_index_or};
-ghost use Rattle.ocl_values.specs.Shape.{canon};
-ghost use Rattle.ocl_values.specs.declared.value.Kind.TheVariants.{OrderedSet};
-ghost use Rattle.ocl_values.specs.declared.value.Value.TheVariants.{Invalid};
-ghost use Rattle.ocl_collections.specs.Positions.{append, at, first, has_places, index_of, insert_at, last, part, place_from, prepend, put, reversed, sub_ordered_set, sub_sequence};
+ghost use Rattle.std.specs.Prelude.{◌≡◌, ◌≤◌, ◌+◌, true, IfOk, length, take, drop, slice_index_or};
+ghost use Rattle.ocl_values.specs.Shape.{canon, IsWellMade};
+ghost use Rattle.ocl_values.specs.declared.value.Value.TheVariants.{Coll, Invalid};
+ghost use Rattle.ocl_collections.specs.Positions.{append, at, first, has_places, holds, index_of, insert_at, last, part, place_from, prepend, put, reversed, sub_ordered_set, sub_sequence};
 
-use crate::made::{made, made_of};
+use crate::making::{collection, is_unfit};
 use ocl_values::{Kind, Value};
 use std::alloc::{AllocError, Global};
-use use_orders::{contains_anywhere, copied, with_behind};
+use use_orders::{contains_anywhere, copied};
 
 // Whether the elements of the kind have places.
 fn has_places(kind: Kind) -> bool
@@ -19,32 +18,31 @@ fn has_places(kind: Kind) -> bool
     }
 }
 
-// The elements with x behind the first n, unless they have x.
-fn inserted_once(
-    alloc: Global,
-    n: usize,
-    items: &[Value],
-    x: &Value,
-) -> Result<Vec<Value>, AllocError>
-    requires { n ≤ length items.now }
-    ensures { IfOk result (λ v. v.items ≡ put OrderedSet n items.now x.now) }
+// Whether a collection of the kind has x and takes it no second time.
+fn holds(kind: Kind, items: &[Value], x: &Value) -> bool
+    ensures { result ≡ holds kind items.now x.now }
 {
-    if contains_anywhere(items, x) {
-        return copied(alloc, items);
+    match kind {
+        Kind::OrderedSet => contains_anywhere(items, x),
+        _ => false,
     }
-    with_behind(alloc, items, n, x)
 }
 
-// The collection with x behind the first n.
+// The collection with x after the first n, for a kind that has places.
 fn put(alloc: Global, kind: Kind, n: usize, items: &[Value], x: &Value) -> Result<Value, AllocError>
-    requires { n ≤ length items.now }
+    requires place { n ≤ length items.now }
+    requires places { has_places kind ≡ true }
+    requires source { IsWellMade (Coll kind items.now) }
+    requires element { IsWellMade x.now }
     ensures { IfOk result (λ v. v ≡ canon kind (put kind n items.now x.now)) }
 {
-    let all = match kind {
-        Kind::OrderedSet => inserted_once(alloc, n, items, x)?,
-        _ => with_behind(alloc, items, n, x)?,
-    };
-    made(alloc, kind, all)
+    if holds(kind, items, x) {
+        return Ok(collection(kind, copied(alloc, items)?));
+    }
+    if is_unfit(x) {
+        return Ok(Value::Invalid);
+    }
+    Ok(collection(kind, use_orders::insert_at(alloc, items, n, x)?))
 }
 
 pub(crate) fn append(
@@ -53,6 +51,8 @@ pub(crate) fn append(
     items: &[Value],
     x: &Value,
 ) -> Result<Value, AllocError>
+    requires source { IsWellMade (Coll kind items.now) }
+    requires element { IsWellMade x.now }
     ensures { IfOk result (λ v. v ≡ append kind items.now x.now) }
 {
     if has_places(kind) {
@@ -68,6 +68,8 @@ pub(crate) fn prepend(
     items: &[Value],
     x: &Value,
 ) -> Result<Value, AllocError>
+    requires source { IsWellMade (Coll kind items.now) }
+    requires element { IsWellMade x.now }
     ensures { IfOk result (λ v. v ≡ prepend kind items.now x.now) }
 {
     if has_places(kind) {
@@ -84,6 +86,8 @@ pub(crate) fn insert_at(
     i: i128,
     x: &Value,
 ) -> Result<Value, AllocError>
+    requires source { IsWellMade (Coll kind items.now) }
+    requires element { IsWellMade x.now }
     ensures { IfOk result (λ v. v ≡ insert_at kind items.now i x.now) }
 {
     if has_places(kind) && 1 <= i && i <= items.len() as i128 + 1 {
@@ -93,8 +97,8 @@ pub(crate) fn insert_at(
     }
 }
 
-// A copy of the element behind the first n, or invalid.
-fn behind(alloc: Global, items: &[Value], n: usize) -> Result<Value, AllocError>
+// A copy of the element after the first n, or invalid.
+fn copy_after(alloc: Global, items: &[Value], n: usize) -> Result<Value, AllocError>
     ensures { IfOk result (λ v. v ≡ slice_index_or items.now n Invalid) }
 {
     match items.get(n) {
@@ -107,7 +111,7 @@ pub(crate) fn at(alloc: Global, kind: Kind, items: &[Value], i: i128) -> Result<
     ensures { IfOk result (λ v. v ≡ at kind items.now i) }
 {
     if has_places(kind) && 1 <= i && i <= items.len() as i128 {
-        behind(alloc, items, (i - 1) as usize)
+        copy_after(alloc, items, (i - 1) as usize)
     } else {
         Ok(Value::Invalid)
     }
@@ -117,7 +121,7 @@ pub(crate) fn first(alloc: Global, kind: Kind, items: &[Value]) -> Result<Value,
     ensures { IfOk result (λ v. v ≡ first kind items.now) }
 {
     if has_places(kind) {
-        behind(alloc, items, 0)
+        copy_after(alloc, items, 0)
     } else {
         Ok(Value::Invalid)
     }
@@ -127,7 +131,7 @@ pub(crate) fn last(alloc: Global, kind: Kind, items: &[Value]) -> Result<Value, 
     ensures { IfOk result (λ v. v ≡ last kind items.now) }
 {
     if has_places(kind) {
-        behind(alloc, items, items.len().saturating_sub(1))
+        copy_after(alloc, items, items.len().saturating_sub(1))
     } else {
         Ok(Value::Invalid)
     }
@@ -155,12 +159,30 @@ pub(crate) fn index_of(kind: Kind, items: &[Value], x: &Value) -> Value
     }
 }
 
-// The elements from place l to place u.
+// The collection of the m elements after the first n, for a kind that has places.
+fn copy_part(
+    alloc: Global,
+    kind: Kind,
+    items: &[Value],
+    n: usize,
+    m: usize,
+) -> Result<Value, AllocError>
+    requires within { n + m ≤ length items.now }
+    requires places { has_places kind ≡ true }
+    requires source { IsWellMade (Coll kind items.now) }
+    ensures { IfOk result (λ v. v ≡ canon kind (take m (drop n items.now))) }
+{
+    Ok(collection(kind, copied(alloc, &items[n..n + m])?))
+}
+
+// The elements from place l to place u, of a kind that has places.
 fn part(alloc: Global, kind: Kind, items: &[Value], l: i128, u: i128) -> Result<Value, AllocError>
+    requires places { has_places kind ≡ true }
+    requires source { IsWellMade (Coll kind items.now) }
     ensures { IfOk result (λ v. v ≡ part kind items.now l u) }
 {
     if 1 <= l && l <= u && u <= items.len() as i128 {
-        made_of(alloc, kind, &items[(l - 1) as usize..u as usize])
+        copy_part(alloc, kind, items, (l - 1) as usize, (u - l) as usize + 1)
     } else {
         Ok(Value::Invalid)
     }
@@ -173,6 +195,7 @@ pub(crate) fn sub_sequence(
     l: i128,
     u: i128,
 ) -> Result<Value, AllocError>
+    requires { IsWellMade (Coll kind items.now) }
     ensures { IfOk result (λ v. v ≡ sub_sequence kind items.now l u) }
 {
     match kind {
@@ -188,6 +211,7 @@ pub(crate) fn sub_ordered_set(
     l: i128,
     u: i128,
 ) -> Result<Value, AllocError>
+    requires { IsWellMade (Coll kind items.now) }
     ensures { IfOk result (λ v. v ≡ sub_ordered_set kind items.now l u) }
 {
     match kind {
@@ -196,13 +220,14 @@ pub(crate) fn sub_ordered_set(
     }
 }
 
-pub(crate) fn reversed(alloc: Global, kind: Kind, items: &[Value]) -> Result<Value, AllocError>
-    ensures { IfOk result (λ v. v ≡ reversed kind items.now) }
+pub(crate) fn reversed(kind: Kind, items: Vec<Value>) -> Value
+    requires { IsWellMade (Coll kind items.items) }
+    ensures { result ≡ reversed kind items.items }
 {
     if !has_places(kind) {
-        return Ok(Value::Invalid);
+        return Value::Invalid;
     }
-    let mut all = copied(alloc, items)?;
+    let mut all = items;
     all.reverse();
-    made(alloc, kind, all)
+    collection(kind, all)
 }

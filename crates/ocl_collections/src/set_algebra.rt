@@ -3,7 +3,7 @@ ghost use Rattle.ocl_values.specs.Shape.{canonical, IsWellMade};
 ghost use Rattle.ocl_values.specs.declared.value.Value.TheVariants.{Coll};
 ghost use Rattle.ocl_collections.specs.SetAlgebra.{difference, intersection, symmetric_difference, union, union_kind};
 
-use crate::made::collected;
+use crate::making::collection;
 use ocl_values::{Kind, Value};
 use std::alloc::{AllocError, Global};
 use use_orders::{append_copies, common, copied, join, keep_first, symmetric, within, without};
@@ -21,8 +21,8 @@ fn union_kind(kind: Kind, other: Kind) -> Option<Kind>
     }
 }
 
-// The elements of two lists, one behind the other.
-fn behind(alloc: Global, items: &[Value], others: &[Value]) -> Result<Vec<Value>, AllocError>
+// The elements of two lists, one after the other.
+fn concatenated(alloc: Global, items: &[Value], others: &[Value]) -> Result<Vec<Value>, AllocError>
     ensures { IfOk result (λ v. v.items ≡ items.now ++ others.now) }
 {
     let mut all = copied(alloc, items)?;
@@ -46,9 +46,9 @@ fn united(
 {
     match joined {
         Kind::Set => use_orders::union(alloc, items, others),
-        Kind::OrderedSet => keep_first(alloc, behind(alloc, items, others)?),
+        Kind::OrderedSet => keep_first(alloc, concatenated(alloc, items, others)?),
         Kind::Bag => join(alloc, items, others),
-        Kind::Sequence => behind(alloc, items, others),
+        Kind::Sequence => concatenated(alloc, items, others),
     }
 }
 
@@ -66,7 +66,7 @@ pub(crate) fn union(
     match union_kind(kind, other) {
         Some(joined) => {
             let all = united(alloc, joined, kind, items, other, others)?;
-            Ok(collected(joined, all))
+            Ok(collection(joined, all))
         }
         None => Ok(Value::Invalid),
     }
@@ -84,10 +84,10 @@ pub(crate) fn intersection(
     ensures { IfOk result (λ v. v ≡ intersection kind items.now other others.now) }
 {
     match (kind, other) {
-        (Kind::Set, Kind::Set) => Ok(collected(Kind::Set, within(alloc, items, others)?)),
-        (Kind::Set, Kind::Bag) => Ok(collected(Kind::Set, within(alloc, items, others)?)),
-        (Kind::Bag, Kind::Set) => Ok(collected(Kind::Set, within(alloc, others, items)?)),
-        (Kind::Bag, Kind::Bag) => Ok(collected(Kind::Bag, common(alloc, items, others)?)),
+        (Kind::Set, Kind::Set) => Ok(collection(Kind::Set, within(alloc, items, others)?)),
+        (Kind::Set, Kind::Bag) => Ok(collection(Kind::Set, within(alloc, items, others)?)),
+        (Kind::Bag, Kind::Set) => Ok(collection(Kind::Set, within(alloc, others, items)?)),
+        (Kind::Bag, Kind::Bag) => Ok(collection(Kind::Bag, common(alloc, items, others)?)),
         _ => Ok(Value::Invalid),
     }
 }
@@ -104,7 +104,7 @@ pub(crate) fn difference(
     ensures { IfOk result (λ v. v ≡ difference kind items.now other others.now) }
 {
     match (kind, other) {
-        (Kind::Set, Kind::Set) => Ok(collected(Kind::Set, without(alloc, items, others)?)),
+        (Kind::Set, Kind::Set) => Ok(collection(Kind::Set, without(alloc, items, others)?)),
         _ => Ok(Value::Invalid),
     }
 }
@@ -121,7 +121,7 @@ pub(crate) fn symmetric_difference(
     ensures { IfOk result (λ v. v ≡ symmetric_difference kind items.now other others.now) }
 {
     match (kind, other) {
-        (Kind::Set, Kind::Set) => Ok(collected(Kind::Set, symmetric(alloc, items, others)?)),
+        (Kind::Set, Kind::Set) => Ok(collection(Kind::Set, symmetric(alloc, items, others)?)),
         _ => Ok(Value::Invalid),
     }
 }

@@ -5,3 +5,4 @@ pub mod CharacterLists
 pub mod Numerals
 pub mod Finding
 pub mod WellMade
+pub mod Elements

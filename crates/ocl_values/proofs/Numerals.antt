@@ -10,7 +10,8 @@ use Rattle.std.proofs.lemmas.Str.{encodes-chars, encodes-IsAscii, chars-IsAscii}
 use Rattle.std.proofs.lemmas.Str.Ascii.{IsAscii-cons}
 use Rattle.std.proofs.lemmas.Str.Parse.{IsNumeralModel, numerals_by_fold, parse_signed_minus, parse_signed_plain}
 use Rattle.ocl_values.specs.declared.value.Value.TheVariants.{Int, Invalid}
-use Rattle.ocl_values.specs.Integers.{checked, in_range, int_value}
+use Rattle.ocl_values.specs.Checked.{checked}
+use Rattle.ocl_values.specs.Integers.{in_range, int_value}
 use Rattle.ocl_values.specs.Strings.{is_numeral, number_of, integer_of}
 
 abbrev read_on : ℕ → List ℕ → ℕ

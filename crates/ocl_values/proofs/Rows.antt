@@ -10,7 +10,7 @@ sizes_row : (n : _) (row : Row_of-Value n) → row_size row ≡ sizes_of (items-
 sizes_row n end_of-Value = refl
 sizes_row n (more_of-Value v rest) = ap (λ s. size_of v + s) (sizes_row _ rest)
 
-levels_row : (n : _) (row : Row_of-Value n) → row_levels row ≡ most_levels (items-the_row-Value n row)
+pub levels_row : (n : _) (row : Row_of-Value n) → row_levels row ≡ most_levels (items-the_row-Value n row)
 levels_row n end_of-Value = refl
 levels_row n (more_of-Value v rest) = ap (λ s. max (levels_of v) s) (levels_row _ rest)
 
@@ -18,7 +18,7 @@ tidy_row : (n : _) (row : Row_of-Value n) → AllByRecursion IsTidy (items-the_r
 tidy_row n end_of-Value all = tt
 tidy_row n (more_of-Value v rest) all = (all.0, tidy_row _ rest all.1)
 
-row_tidy : (n : _) (row : Row_of-Value n) → AreTidy row → AllByRecursion IsTidy (items-the_row-Value n row)
+pub row_tidy : (n : _) (row : Row_of-Value n) → AreTidy row → AllByRecursion IsTidy (items-the_row-Value n row)
 row_tidy n end_of-Value all = tt
 row_tidy n (more_of-Value v rest) all = (all.0, row_tidy _ rest all.1)
 

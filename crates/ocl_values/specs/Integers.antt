@@ -1,5 +1,5 @@
 -- The operations of Integer, over the whole numbers, where a result out of range is invalid.
-use Rattle.std.specs.Prelude.{zero, ◌^◌, nat_lt, Bool, if◌then◌else◌, Option, Some, None, ℤ, pos, negsuc, ◌+ℤ◌, ◌-ℤ◌, ◌*ℤ◌, neg_ℤ, unsigned_abs, int_div, int_lt, int_le}
+use Rattle.std.specs.Prelude.{zero, ◌^◌, nat_lt, Bool, if◌then◌else◌, ℤ, pos, negsuc, ◌+ℤ◌, ◌-ℤ◌, ◌*ℤ◌, neg_ℤ, unsigned_abs, int_div, int_lt, int_le}
 use Rattle.std.specs.Int.{int_min, int_max}
 use Rattle.ocl_values.specs.declared.value.Value.{Value}
 use Rattle.ocl_values.specs.declared.value.Value.TheVariants as V
@@ -15,11 +15,6 @@ in_range (negsuc n) = nat_lt n (2 ^ 127)
 -- the integer, or invalid where it is out of range
 abbrev pub int_value : ℤ → Value
 int_value z = if in_range z then Int z else Invalid
-
--- the integer that is given, or invalid
-abbrev pub checked : Option ℤ → Value
-checked (Some n) = Int n
-checked None = Invalid
 
 -- a div b, truncated toward zero
 abbrev pub quotient : ℤ → ℤ → Value

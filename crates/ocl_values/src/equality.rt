@@ -7,19 +7,13 @@ ghost use Rattle.ocl_values.specs.Shape.{IsWellMade};
 use crate::Value;
 use std::cmp::Ordering;
 
-fn is_invalid(v: &Value) -> bool
-    ensures { result ≡ is_invalid v.now }
-{
-    matches!(v, Value::Invalid)
-}
-
 /// `a = b`. Null equals null and nothing else.
 pub fn same(a: &Value, b: &Value) -> Value
     ensures value { result ≡ same_value a.now b.now }
     ensures equal { (result ≡ Value.Bool true) ↔ ((a.now ≡ b.now) × (is_invalid a.now ≡ false)) }
     ensures well_made { IsWellMade result }
 {
-    if is_invalid(a) || is_invalid(b) {
+    if a.is_invalid() || b.is_invalid() {
         Value::Invalid
     } else {
         Value::Bool(a.cmp(b).is_eq())

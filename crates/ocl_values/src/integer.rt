@@ -1,5 +1,6 @@
 ghost use Rattle.std.specs.Prelude.{◌≡◌, ℤ, ◌+ℤ◌, ◌-ℤ◌, ◌*ℤ◌, neg_ℤ, pos, unsigned_abs};
-ghost use Rattle.ocl_values.specs.Integers.{checked, int_op_value, int_value, of_one, of_two, quotient, remainder};
+ghost use Rattle.ocl_values.specs.Checked.{checked};
+ghost use Rattle.ocl_values.specs.Integers.{int_op_value, int_value, of_one, of_two, quotient, remainder};
 ghost use Rattle.ocl_values.specs.Shape.{IsWellMade};
 
 use crate::Value;

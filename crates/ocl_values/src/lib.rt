@@ -3,6 +3,7 @@
 
 mod equality;
 mod integer;
+mod laws;
 mod logic;
 mod printing;
 mod shape;
@@ -12,6 +13,7 @@ mod value;
 
 pub use equality::{order, same};
 pub use integer::{IntOp, int_op};
+pub use laws::elements_are_well_made;
 pub use logic::{and, implies, not, or, xor};
 pub use printing::{Names, print};
 pub use shape::size;

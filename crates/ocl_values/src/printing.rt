@@ -6,6 +6,7 @@ ghost use Rattle.ocl_values.specs.Printing.{escaped, kind_name, literal_text, ob
 ghost use Rattle.ocl_values.specs.Strings.{bool_text};
 
 use crate::{EnumNo, Kind, LitNo, ObjNo, Value};
+use itoa::Buffer;
 use std::alloc::{AllocError, Global};
 
 /// The names that printing needs: those of live objects and of enumeration literals.
@@ -81,11 +82,11 @@ fn append_quoted(text: &str, out: &mut Vec<u8>) -> Result<(), AllocError>
     append("'", out)
 }
 
-fn append_integer(alloc: Global, n: i128, out: &mut Vec<u8>) -> Result<(), AllocError>
+fn append_integer(n: i128, out: &mut Vec<u8>) -> Result<(), AllocError>
     ensures { OnOk result (out.new.items ≡ out.old.items ++ signed_decimal n) }
 {
-    let digits = format!(in alloc; "{n}")?;
-    append(digits.as_str(), out)
+    let mut digits = Buffer::new();
+    append(digits.format(n), out)
 }
 
 fn append_literal(names: Option<(&str, &str)>, out: &mut Vec<u8>) -> Result<(), AllocError>
@@ -102,19 +103,16 @@ fn append_literal(names: Option<(&str, &str)>, out: &mut Vec<u8>) -> Result<(), 
     }
 }
 
-fn append_object(
-    alloc: Global,
-    object: ObjNo,
-    name: Option<&str>,
-    out: &mut Vec<u8>,
-) -> Result<(), AllocError>
+fn append_object(object: ObjNo, name: Option<&str>, out: &mut Vec<u8>) -> Result<(), AllocError>
     ensures { OnOk result (out.new.items ≡ out.old.items ++ object_text object (option_copied name.entry)) }
 {
     match name {
         Some(name) => append(name, out),
         None => {
-            let text = format!(in alloc; "destroyed({object})")?;
-            append(text.as_str(), out)
+            let mut digits = Buffer::new();
+            append("destroyed(", out)?;
+            append(digits.format(object), out)?;
+            append(")", out)
         }
     }
 }
@@ -141,13 +139,13 @@ pub fn print<N: Names>(
         Value::Null => append("null", out),
         Value::Invalid => append("invalid", out),
         Value::Bool(b) => append(bool_text(*b), out),
-        Value::Int(n) => append_integer(alloc, *n, out),
+        Value::Int(n) => append_integer(*n, out),
         Value::Str(text) => append_quoted(text.as_str(), out),
         Value::Enum(enumeration, literal) => append_literal(
             names.literal(*enumeration, *literal),
             out,
         ),
-        Value::Obj(object) => append_object(alloc, *object, names.object(*object), out),
+        Value::Obj(object) => append_object(*object, names.object(*object), out),
         Value::Coll(kind, items) => {
             append(kind_name(*kind), out)?;
             append("{", out)?;

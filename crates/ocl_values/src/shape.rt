@@ -53,7 +53,7 @@ impl Value {
 fn copy_all(alloc: Global, all: &[Value]) -> Result<Items<Value>, AllocError>
     ensures { IfOk result (λ items. items ≡ all.now) }
 {
-    let mut list = Vec::new(alloc);
+    let mut list = Vec::with_capacity(alloc, all.len())?;
     'copy: for v in all {
         list.push(v.try_copy(alloc)?)?;
     }

@@ -1,3 +1,6 @@
+ghost use Rattle.std.specs.Prelude.{◌≡◌};
+ghost use Rattle.ocl_values.specs.Logic.{is_invalid};
+
 use crate::Text;
 use use_lists::Items;
 
@@ -37,4 +40,13 @@ pub enum Value {
     /// An object, live or destroyed.
     Obj(ObjNo),
     Coll(Kind, Items<Value>),
+}
+
+impl Value {
+    /// Whether this is `Invalid`; null is not.
+    pub fn is_invalid(&self) -> bool
+        ensures { result ≡ is_invalid self.now }
+    {
+        matches!(self, Value::Invalid)
+    }
 }

@@ -3,12 +3,13 @@ use Rattle.std.proofs.Common.{◌≡◌, ℕ, ◌+◌, ◌<◌, ◌≤◌, ◌++
 use Rattle.std.specs.Cmp.{IsTotalOrder}
 use Rattle.std.specs.List.{AllByRecursion}
 use Rattle.std.proofs.lemmas.Cmp.{upto}
-use Rattle.use_orders.specs.Canon.{insert_in, bag_of, Progress}
+use Rattle.use_orders.specs.Canon.{insert_in, bag_of}
+use Rattle.use_orders.specs.Walks.{Progress}
 use Rattle.use_orders.proofs.Bags.{Ascends, Ascends-from_sort, all_weaker, not_under, turned}
 use Rattle.use_orders.proofs.Kept.{all_bag}
 use Rattle.use_orders.proofs.Shared.{opened, Ascends-drop, above}
 
-both : {K : Type 0} (P : K → Type 0) (xs ys : List K) → AllByRecursion P xs → AllByRecursion P ys → AllByRecursion P (xs ++ ys)
+pub both : {K : Type 0} (P : K → Type 0) (xs ys : List K) → AllByRecursion P xs → AllByRecursion P ys → AllByRecursion P (xs ++ ys)
 both P [] ys a b = b
 both P (x ∷ xs) ys a b = (a.0, both P xs ys a.1 b)
 

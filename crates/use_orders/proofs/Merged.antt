@@ -86,7 +86,7 @@ module _ {K : Type 0} {cmp : K → K → Ordering} (o : IsTotalOrder cmp) where
   pub set_union : IsAntisymmetric cmp → (xs ys : List K) → set_of cmp xs ≡ xs → set_of cmp ys ≡ ys → sorted_merge cmp true xs ys ≡ set_of cmp (xs ++ ys)
   set_union exact xs ys a b = is_set exact (sorted_merge cmp true xs ys) (xs ++ ys) (rises_merged xs ys (rises xs a) (rises ys b)) (λ z. has_union xs ys z ∙ sym (list_any-append (λ y. is_eq (cmp z y)) xs ys))
 
-  up_from_rise : (xs : List K) → IsStrictlySortedBy cmp xs → Ascends cmp xs
+  pub up_from_rise : (xs : List K) → IsStrictlySortedBy cmp xs → Ascends cmp xs
   unfolding IsStrictlySortedBy Ascends
   up_from_rise [] up = tt
   up_from_rise (x ∷ xs) up = (all_weaker (λ y. cmp x y ≡ Less) (λ y. is_gt (cmp x y) ≡ false) (λ y e. ap is_gt e) xs up.0, up_from_rise xs up.1)

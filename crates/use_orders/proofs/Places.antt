@@ -8,7 +8,8 @@ use Rattle.std.proofs.lemmas.List.{take_more, take_at, get_or_append_left, get_o
 use Rattle.std.proofs.lemmas.Bool.{cond_both, cases_lt}
 use Rattle.std.proofs.lemmas.List.Folds.{list_any-append}
 use Rattle.std.proofs.lemmas.List.Sums.{fold_more, fold_push}
-use Rattle.use_orders.specs.Canon.{has, add_new, firsts_of, is_first}
+use Rattle.use_orders.specs.Canon.{has, add_new, firsts_of}
+use Rattle.use_orders.specs.Walks.{is_first}
 use Rattle.use_orders.proofs.Sets.{equal, match_all, once_or, swap_or}
 use Rattle.use_orders.proofs.Merged.{has_alike, or_false, or_assoc}
 

@@ -3,7 +3,8 @@ use Rattle.std.proofs.Common.{◌≡◌, subst, ◌||◌, ◌++◌, ◌+◌, ◌
 use Rattle.std.specs.Ordering.{ordering_reverse}
 use Rattle.std.specs.Cmp.{IsTotalOrder}
 use Rattle.std.specs.List.{AllByRecursion}
-use Rattle.use_orders.specs.Canon.{has, common_of, without_one, Progress}
+use Rattle.use_orders.specs.Canon.{has, common_of, without_one}
+use Rattle.use_orders.specs.Walks.{Progress}
 use Rattle.use_orders.proofs.Bags.{Ascends, Ascends-from_sort, all_weaker, under, turned}
 use Rattle.use_orders.proofs.Sets.{has_below}
 

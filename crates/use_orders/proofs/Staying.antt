@@ -36,11 +36,11 @@ module _ {K : Type 0} (cmp : K → K → Ordering) where
       (λ _. all_common P xs ys all.1)
 
   -- each element is new to those before it
-  unfoldable AreNew : List K → List K → Type 0
+  unfoldable pub AreNew : List K → List K → Type 0
   AreNew seen [] = Unit {0}
   AreNew seen (x ∷ xs) = (has cmp seen x ≡ false) × AreNew (seen ++ x ∷ []) xs
 
-  kept_new : (seen xs : List K) → AreNew seen xs → fold (add_new cmp) seen xs ≡ seen ++ xs
+  pub kept_new : (seen xs : List K) → AreNew seen xs → fold (add_new cmp) seen xs ≡ seen ++ xs
   unfolding AreNew
   kept_new seen [] new = sym (append-nil seen)
   kept_new seen (x ∷ xs) new =
@@ -58,7 +58,7 @@ module _ {K : Type 0} (cmp : K → K → Ordering) where
       let rest = no_longer (seen ++ x ∷ []) xs in
       omega (arith, rest, pushed))
 
-  new_kept : (seen xs : List K) → fold (add_new cmp) seen xs ≡ seen ++ xs → AreNew seen xs
+  pub new_kept : (seen xs : List K) → fold (add_new cmp) seen xs ≡ seen ++ xs → AreNew seen xs
   unfolding AreNew
   new_kept seen [] same = tt
   new_kept seen (x ∷ xs) same =

@@ -1,6 +1,6 @@
 -- Lists in order, with and without repeats, as insertion of each element makes them.
-use Rattle.std.specs.Prelude.{◌≡◌, ℕ, Bool, true, false, cond, not, List, [], ◌∷◌, ◌++◌, ◌+◌, ◌<◌, ◌≤◌, drop, take, filter, map, fold, length, count_by}
-use Rattle.std.specs.List.{list_any, zip}
+use Rattle.std.specs.Prelude.{ℕ, Bool, true, cond, not, ◌&&◌, List, [], ◌∷◌, ◌++◌, filter, map, fold, count_by}
+use Rattle.std.specs.List.{list_any, list_all, zip}
 use Rattle.std.specs.declared.cmp.Ordering.{Ordering}
 use Rattle.std.specs.Ordering.{is_lt, is_eq, match_ordering}
 
@@ -29,6 +29,19 @@ module _ {K : Type 0} (cmp : K → K → Ordering) where
   abbrev pub has : List K → K → Bool
   has xs x = list_any (λ y. is_eq (cmp x y)) xs
 
+  -- whether all of some things are there
+  abbrev pub has_all : List K → List K → Bool
+  has_all xs ys = list_all (λ y. has xs y) ys
+
+  -- whether none of some things is there
+  abbrev pub has_none : List K → List K → Bool
+  has_none xs ys = list_all (λ y. not (has xs y)) ys
+
+  -- whether no two elements tie
+  abbrev pub all_differ : List K → Bool
+  all_differ [] = true
+  all_differ (x ∷ xs) = not (has xs x) && all_differ xs
+
   -- how often x is there
   abbrev pub times : List K → K → ℕ
   times xs x = count_by (λ y. is_eq (cmp x y)) xs
@@ -40,10 +53,6 @@ module _ {K : Type 0} (cmp : K → K → Ordering) where
   -- each element at its first place
   abbrev pub firsts_of : List K → List K
   firsts_of xs = fold add_new [] xs
-
-  -- whether the element at k is at its first place
-  abbrev pub is_first : List K → ℕ → K → Bool
-  is_first xs k x = not (has (take k xs) x)
 
   -- the elements that are not in another list
   abbrev pub without : List K → List K → List K
@@ -67,14 +76,8 @@ module _ {K : Type 0} (cmp : K → K → Ordering) where
 abbrev pub sorted_by_keys : {K X : Type 0} → (K → K → Ordering) → List X → List K → List X
 sorted_by_keys cmp items keys = map (λ pair. pair.1) (bag_of (λ a b. cmp a.0 b.0) (zip keys items))
 
--- one step of what walks two lists together: it took from a or b, and what is out and what comes of the rest stay the same list
-pub record Progress {K : Type 0} (walk : List K → List K → List K) (a b : List K) (i j : ℕ) (out : List K) (i' j' : ℕ) (out' : List K) : Type 0 where
-  pub same : out' ++ walk (drop i' a) (drop j' b) ≡ out ++ walk (drop i a) (drop j b)
-  pub further : i + j < i' + j'
-  pub in_a : i' ≤ length a
-  pub in_b : j' ≤ length b
-
--- what a test answers, or the contrary
-abbrev pub answers : Bool → Bool → Bool
-answers true b = b
-answers false b = not b
+-- the elements beside which true stands
+abbrev pub selected : {X : Type 0} → List X → List Bool → List X
+selected [] flags = []
+selected (x ∷ xs) [] = []
+selected (x ∷ xs) (flag ∷ flags) = cond flag (x ∷ selected xs flags) (selected xs flags)

@@ -7,7 +7,7 @@ use crate::{TryCopy, append_copies, copied};
 use std::alloc::{AllocError, Global};
 
 /// Copies of the elements, with a copy of `x` behind the first `n`.
-pub fn with_behind<T: TryCopy + Drop>(
+pub fn insert_at<T: TryCopy + Drop>(
     alloc: Global,
     items: &[T],
     n: usize,
@@ -50,7 +50,7 @@ pub fn insert<T: Ord + TryCopy + Drop>(
     requires sorted { IsSorted T.cmp items.now }
     ensures { IfOk result (λ v. v.items ≡ bag_of T.cmp (items.now ++ x.now ∷ [])) }
 {
-    with_behind(alloc, items, below(items, x), x)
+    insert_at(alloc, items, below(items, x), x)
 }
 
 /// A list in order without repeats, with one element more unless it is there.
@@ -65,7 +65,7 @@ pub fn insert_absent<T: Ord + TryCopy + Drop>(
 {
     match items.binary_search(x) {
         Ok(_) => copied(alloc, items),
-        Err(n) => with_behind(alloc, items, n, x),
+        Err(n) => insert_at(alloc, items, n, x),
     }
 }
 

@@ -1,12 +1,13 @@
-ghost use Rattle.std.specs.Prelude.{◌≡◌, ◌<◌, ℕ, true, length, slice_index_or, IfOk, OnOk, if◌then◌else◌, ◌++◌, ◌∷◌, []};
-ghost use Rattle.use_orders.specs.Canon.{firsts_of, is_first};
+ghost use Rattle.std.specs.Prelude.{◌≡◌, length, IfOk, OnOk, if◌then◌else◌, ◌++◌, ◌∷◌, []};
+ghost use Rattle.use_orders.specs.Canon.{firsts_of};
+ghost use Rattle.use_orders.specs.Walks.{AreFirst};
 
 use std::alloc::{AllocError, Global};
 use std::collections::BTreeSet;
 
 // Of each element, whether it is at its first place.
 fn first_places<T: Ord>(alloc: Global, items: &[T]) -> Result<Vec<bool>, AllocError>
-    ensures places { IfOk result (λ v. (k : ℕ) (d : T) → k < length items.now → slice_index_or v.items k true ≡ is_first T.cmp items.now k (slice_index_or items.now k d)) }
+    ensures places { IfOk result (λ v. AreFirst T.cmp items.now v.items) }
     ensures len { IfOk result (λ v. length v.items ≡ length items.now) }
 {
     let mut seen: BTreeSet<&T> = BTreeSet::new(alloc);
@@ -17,7 +18,7 @@ fn first_places<T: Ord>(alloc: Global, items: &[T]) -> Result<Vec<bool>, AllocEr
     Ok(places)
 }
 
-fn keep_one<T: Drop>(out: &mut Vec<T>, x: T, here: bool) -> Result<(), AllocError>
+pub(crate) fn keep_one<T: Drop>(out: &mut Vec<T>, x: T, here: bool) -> Result<(), AllocError>
     ensures { OnOk result (out.new.items ≡ (if here then out.old.items ++ x ∷ [] else out.old.items)) }
 {
     if here {

@@ -1,5 +1,6 @@
 ghost use Rattle.std.specs.Prelude.{◌≡◌, ◌<◌, ◌++◌, length, IfOk, IsSorted};
-ghost use Rattle.use_orders.specs.Canon.{Progress, bag_of};
+ghost use Rattle.use_orders.specs.Canon.{bag_of};
+ghost use Rattle.use_orders.specs.Walks.{Progress};
 
 use crate::{TryCopy, append_copies};
 use std::alloc::{AllocError, Global};

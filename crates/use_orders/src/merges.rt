@@ -1,7 +1,8 @@
 ghost use Rattle.std.specs.Prelude.{◌≡◌, ◌==◌, IsSorted, ◌++◌, ◌+◌, ◌<◌, ◌≤◌, not, filter, drop, length, IfOk, true, false, Bool};
 ghost use Rattle.std.specs.Set.{sorted_merge};
 ghost use Rattle.std.specs.FinMap.{IsAntisymmetric};
-ghost use Rattle.use_orders.specs.Canon.{Progress, answers, has, set_of, within, without};
+ghost use Rattle.use_orders.specs.Canon.{has, set_of, within, without};
+ghost use Rattle.use_orders.specs.Walks.{Progress, answers};
 
 use crate::{TryCopy, append_copies, contains};
 use std::alloc::{AllocError, Global};
@@ -62,24 +63,8 @@ pub fn union<T: Ord + TryCopy + Drop>(alloc: Global, a: &[T], b: &[T]) -> Result
     merge(alloc, a, b)
 }
 
-/// What is in one of two lists in order without repeats and not in the other.
-pub fn symmetric<T: Ord + TryCopy + Drop>(
-    alloc: Global,
-    a: &[T],
-    b: &[T],
-) -> Result<Vec<T>, AllocError>
-    requires exact { IsAntisymmetric T.cmp }
-    requires first { set_of T.cmp a.now ≡ a.now }
-    requires second { set_of T.cmp b.now ≡ b.now }
-    ensures { IfOk result (λ v. v.items ≡ set_of T.cmp (without T.cmp a.now b.now ++ without T.cmp b.now a.now)) }
-{
-    let first = without(alloc, a, b)?;
-    let second = without(alloc, b, a)?;
-    union(alloc, first.as_slice(), second.as_slice())
-}
-
 // The elements of `a` that are in `b` or, where `there` is false, not in `b`.
-fn kept<T: Ord + TryCopy + Drop>(
+fn filtered<T: Ord + TryCopy + Drop>(
     alloc: Global,
     there: bool,
     a: &[T],
@@ -106,7 +91,7 @@ pub fn within<T: Ord + TryCopy + Drop>(
     requires sorted { IsSorted T.cmp b.now }
     ensures { IfOk result (λ v. v.items ≡ within T.cmp a.now b.now) }
 {
-    kept(alloc, true, a, b)
+    filtered(alloc, true, a, b)
 }
 
 /// The elements of the first list that are not in the second, which is in order.
@@ -118,5 +103,5 @@ pub fn without<T: Ord + TryCopy + Drop>(
     requires sorted { IsSorted T.cmp b.now }
     ensures { IfOk result (λ v. v.items ≡ without T.cmp a.now b.now) }
 {
-    kept(alloc, false, a, b)
+    filtered(alloc, false, a, b)
 }

@@ -1,5 +1,6 @@
 ghost use Rattle.std.specs.Prelude.{◌≡◌, ◌<◌, IfOk, IsSorted, length};
-ghost use Rattle.use_orders.specs.Canon.{Progress, common_of};
+ghost use Rattle.use_orders.specs.Canon.{common_of};
+ghost use Rattle.use_orders.specs.Walks.{Progress};
 
 use crate::TryCopy;
 use std::alloc::{AllocError, Global};

@@ -51,7 +51,7 @@ fn of_list(alloc: Global, call: ListCall, text: &str) -> Result<Vec<u8>, AllocEr
             append_copies(alloc, items.as_slice(), items.len().min(1), &mut out)?;
             Ok(out)
         }
-        ListCall::WithBehind => with_behind(alloc, items.as_slice(), items.len().min(1), &b'9'),
+        ListCall::WithBehind => insert_at(alloc, items.as_slice(), items.len().min(1), &b'9'),
     }
 }
 

@@ -1,6 +1,6 @@
 use Rattle.std.proofs.Common.{◌≡◌, ◌≢◌, get_or, ap, sym, ◌∙◌, arith}
 use Rattle.std.proofs.lemmas.Bool.Decides.{nat_tests}
-use Rattle.ocl_values.specs.Integers.{checked}
+use Rattle.ocl_values.specs.Checked.{checked}
 use Rattle.ocl_values.proofs.Numerals.{bytes_integer, chars_integer, plus_integer}
 use Rattle.ocl_values.proofs.string.integer_of.Goals as goal
 

@@ -1,6 +1,7 @@
 use Rattle.std.proofs.Common.{◌≡◌, ◌<◌, ℕ, true, length, get_or, take, is_eq}
 use Rattle.std.specs.List.{list_any}
-use Rattle.use_orders.specs.Canon.{has, is_first}
+use Rattle.use_orders.specs.Canon.{has}
+use Rattle.use_orders.specs.Walks.{is_first}
 use Rattle.use_orders.proofs.firsts.first_places.Given as goal
 
 abbrev pub invariant-mark : goal.invariant-mark

@@ -1,5 +1,5 @@
 use Rattle.std.proofs.Common.{◌≡◌, ◌<◌, ℕ, true, get_or, ◌∷◌, [], ap, sym, subst, length, ◌∙◌, ◌++◌, append_assoc}
-use Rattle.use_orders.specs.Canon.{is_first}
+use Rattle.use_orders.specs.Walks.{is_first}
 use Rattle.use_orders.proofs.Places.{at_more, kept_more}
 use Rattle.use_orders.proofs.firsts.keep_first.Goals as goal
 

@@ -1,6 +1,0 @@
-use Rattle.std.proofs.Common.{◌≡◌, drop}
-use Rattle.ocl_values.specs.Shape.{some_invalid}
-use Rattle.ocl_collections.proofs.made.any_invalid.Given as goal
-
-abbrev pub invariant-seek : goal.invariant-seek
-invariant-seek l = some_invalid (drop l.v-index l.all) ≡ some_invalid l.all

@@ -1,5 +1,0 @@
-use Rattle.ocl_values.proofs.Exact.{value_exact}
-use Rattle.ocl_collections.proofs.made.kept.Goals as goal
-
-pub set-requires : goal.set-requires
-set-requires c = record { exact = value_exact }
