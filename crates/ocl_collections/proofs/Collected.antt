@@ -1,5 +1,6 @@
 -- A collection that is made of elements as its kind keeps them is what `canon` makes.
-use Rattle.std.proofs.Common.{◌≡◌, ◌≤◌, nat_le, ◌||◌, Bool, true, false, cond, Option, Some, ◌⊎◌, inl, inr, ⊎_elim, true≢false, List, [], ◌∷◌, ◌++◌, filter, refl, sym, ap, ◌∙◌, arith, IsSorted}
+use Rattle.std.proofs.Common.{◌≡◌, ◌≤◌, nat_le, ◌||◌, Bool, true, false, cond, Option, Some, ◌⊎◌, inl, inr, ⊎_elim, true≢false, List, [], ◌∷◌, ◌++◌, filter}
+use Rattle.std.proofs.Common.{refl, sym, ap, ◌∙◌, arith, IsSorted}
 use Rattle.std.specs.List.{AllByRecursion}
 use Rattle.use_orders.specs.Canon.{set_of, has, common_of, within, without}
 use Rattle.use_orders.proofs.Staying.{all_filter, all_common, firsts_filter, bag_filter, bag_common, set_within}
@@ -34,7 +35,8 @@ part_of x well fit =
     let split = neither (is_invalid x) (nat_le 256 (levels_of x)) fit in
     (well.tidy, split.0, low_from (levels_of x) split.1)
 
-pub added : (kind : Kind) (xs : List Value) (x : Value) (l : List Value) → IsWellMade (Coll kind xs) → IsWellMade x → is_unfit x ≡ false → l ≡ canonical kind (xs ++ x ∷ []) → Coll kind l ≡ canon kind (xs ++ x ∷ [])
+pub added : (kind : Kind) (xs : List Value) (x : Value) (l : List Value) → IsWellMade (Coll kind xs) → IsWellMade x → is_unfit x ≡ false
+    → l ≡ canonical kind (xs ++ x ∷ []) → Coll kind l ≡ canon kind (xs ++ x ∷ [])
 added kind xs x l well one fit is = of_parts kind (xs ++ x ∷ []) l (both IsPart xs (x ∷ []) (parts_of kind xs well) (part_of x one fit, tt)) is
 
 or_true : (a : Bool) → (a || true) ≡ true
@@ -87,7 +89,8 @@ some_of kind p xs l well is = of_parts kind (filter p xs) l (all_filter IsPart p
 
 -- two collections
 
-pub joined : (kind other k : Kind) (xs ys l : List Value) → IsWellMade (Coll kind xs) → IsWellMade (Coll other ys) → l ≡ canonical k (xs ++ ys) → Coll k l ≡ canon k (xs ++ ys)
+pub joined : (kind other k : Kind) (xs ys l : List Value) → IsWellMade (Coll kind xs) → IsWellMade (Coll other ys) → l ≡ canonical k (xs ++ ys)
+    → Coll k l ≡ canon k (xs ++ ys)
 joined kind other k xs ys l a b is = of_parts k (xs ++ ys) l (both IsPart xs ys (parts_of kind xs a) (parts_of other ys b)) is
 
 abbrev is_bag : Option Kind → Bool
@@ -131,14 +134,21 @@ module _ (kind other k : Kind) (xs ys : List Value) (a : IsWellMade (Coll kind x
 
 -- what two Bags share
 pub shared_bags : (xs ys l : List Value) → IsWellMade (Coll Bag xs) → l ≡ common_of value_cmp xs ys → Coll Bag l ≡ canon Bag (common_of value_cmp xs ys)
-shared_bags xs ys l well is = of_parts Bag (common_of value_cmp xs ys) l (all_common value_cmp IsPart xs ys (parts_of Bag xs well)) (is ∙ bag_common value_cmp value_total xs ys (bag_up Bag xs well refl))
+shared_bags xs ys l well is =
+    of_parts Bag (common_of value_cmp xs ys) l (all_common value_cmp IsPart xs ys (parts_of Bag xs well))
+    (is ∙ bag_common value_cmp value_total xs ys (bag_up Bag xs well refl))
 
 -- what a list shares with a Set, found in the Set
-pub shared_turned : (kind : Kind) (xs ys l : List Value) → IsWellMade (Coll kind xs) → IsWellMade (Coll Set ys) → l ≡ within value_cmp ys xs → Coll Set l ≡ canon Set (within value_cmp xs ys)
-shared_turned kind xs ys l a b is = of_parts Set (within value_cmp xs ys) l (all_filter IsPart (λ x. has value_cmp ys x) xs (parts_of kind xs a)) (is ∙ set_within value_cmp value_total value_exact xs ys (kept_of Set ys b))
+pub shared_turned : (kind : Kind) (xs ys l : List Value) → IsWellMade (Coll kind xs) → IsWellMade (Coll Set ys) → l ≡ within value_cmp ys xs
+    → Coll Set l ≡ canon Set (within value_cmp xs ys)
+shared_turned kind xs ys l a b is =
+    of_parts Set (within value_cmp xs ys) l (all_filter IsPart (λ x. has value_cmp ys x) xs (parts_of kind xs a))
+    (is ∙ set_within value_cmp value_total value_exact xs ys (kept_of Set ys b))
 
 -- what is in one of two Sets alone
-pub apart : (xs ys l : List Value) → IsWellMade (Coll Set xs) → IsWellMade (Coll Set ys) → l ≡ set_of value_cmp (without value_cmp xs ys ++ without value_cmp ys xs) → Coll Set l ≡ canon Set (without value_cmp xs ys ++ without value_cmp ys xs)
+pub apart : (xs ys l : List Value) → IsWellMade (Coll Set xs) → IsWellMade (Coll Set ys)
+    → l ≡ set_of value_cmp (without value_cmp xs ys ++ without value_cmp ys xs) → Coll Set l ≡ canon Set (without value_cmp xs ys ++ without value_cmp ys xs)
 apart xs ys l a b is =
     of_parts Set (without value_cmp xs ys ++ without value_cmp ys xs) l
-    (both IsPart (without value_cmp xs ys) (without value_cmp ys xs) (all_filter IsPart _ xs (parts_of Set xs a)) (all_filter IsPart _ ys (parts_of Set ys b))) is
+    (both IsPart (without value_cmp xs ys) (without value_cmp ys xs) (all_filter IsPart _ xs (parts_of Set xs a)) (all_filter IsPart _ ys (parts_of Set ys b)))
+    is

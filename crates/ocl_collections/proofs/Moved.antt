@@ -1,5 +1,6 @@
 -- A collection of the leaves of values.
-use Rattle.std.proofs.Common.{◌≡◌, ◌≤◌, ◌||◌, ◌++◌, ◌<◌, ◌+◌, ◌*◌, ℕ, nat_le, Bool, true, false, cond, List, [], ◌∷◌, refl, sym, ap, ◌∙◌, arith, append_assoc, append-nil}
+use Rattle.std.proofs.Common.{◌≡◌, ◌≤◌, ◌||◌, ◌++◌, ◌<◌, ◌+◌, ◌*◌, ℕ, nat_le, Bool, true, false, cond, List, [], ◌∷◌, refl, sym, ap, ◌∙◌, arith, append_assoc}
+use Rattle.std.proofs.Common.{append-nil}
 use Rattle.std.specs.List.{AllByRecursion}
 use Rattle.use_orders.proofs.Spread.{bag_flat, set_flat, firsts_flat}
 use Rattle.ocl_values.specs.Order.{value_cmp}
@@ -48,7 +49,8 @@ leaves_end [] v = append-nil (leaves v)
 leaves_end (w ∷ vs) v = ap (λ l. leaves w ++ l) (leaves_end vs v) ∙ sym (append_assoc (leaves w) (all_leaves vs) (leaves v))
 
 -- a loop's step
-pub moved_more : (out out' whole : List Value) (vs : List Value) (v : Value) → out ≡ whole ++ all_leaves vs → out' ≡ out ++ leaves v → out' ≡ whole ++ all_leaves (vs ++ v ∷ [])
+pub moved_more : (out out' whole : List Value) (vs : List Value) (v : Value) → out ≡ whole ++ all_leaves vs → out' ≡ out ++ leaves v
+    → out' ≡ whole ++ all_leaves (vs ++ v ∷ [])
 moved_more out out' whole vs v so_far push =
     push ∙ ap (λ l. l ++ leaves v) so_far ∙ append_assoc whole (all_leaves vs) (leaves v) ∙ ap (λ l. whole ++ l) (sym (leaves_end vs v))
 
@@ -79,13 +81,15 @@ flattened_is kind vs l well is = of_parts kind (all_leaves vs) l (all_leaves_fit
 
 -- of what `make` makes
 
-pub none_flattened : (kind : Kind) (vs : List Value) → (some_invalid vs || nat_le 256 (most_levels vs)) ≡ true → Invalid ≡ coll_op_value Flatten (canon kind vs) []
+pub none_flattened : (kind : Kind) (vs : List Value) → (some_invalid vs || nat_le 256 (most_levels vs)) ≡ true
+    → Invalid ≡ coll_op_value Flatten (canon kind vs) []
 none_flattened kind vs e = sym (ap (λ b. coll_op_value Flatten (cond b Invalid (Coll kind (canonical kind vs))) []) e)
 
 of_made : (kind : Kind) (vs : List Value) → AllByRecursion IsPart vs → coll_op_value Flatten (canon kind vs) [] ≡ flattened kind (canonical kind vs)
 of_made kind vs all = sym (found (canon kind vs) kind (canonical kind vs) (canonical kind vs) (of_collection Flatten []) (canon_is kind vs all) refl)
 
-pub made_flattened : (kind : Kind) (vs l : List Value) → AllByRecursion IsWellMade vs → (some_invalid vs || nat_le 256 (most_levels vs)) ≡ false → l ≡ canonical kind (all_leaves vs)
+pub made_flattened : (kind : Kind) (vs l : List Value) → AllByRecursion IsWellMade vs → (some_invalid vs || nat_le 256 (most_levels vs)) ≡ false
+    → l ≡ canonical kind (all_leaves vs)
     → Coll kind l ≡ coll_op_value Flatten (canon kind vs) []
 made_flattened kind vs l well fit is =
     let split = neither (some_invalid vs) (nat_le 256 (most_levels vs)) fit in
@@ -93,7 +97,8 @@ made_flattened kind vs l well fit is =
     let elements = all_kept kind IsPart vs all in
     of_parts kind (all_leaves (canonical kind vs)) l (all_leaves_fit (canonical kind vs) elements) (is ∙ sym (same_leaves kind vs)) ∙ sym (of_made kind vs all)
 
-pub made_flattened_well : (kind : Kind) (vs l : List Value) → AllByRecursion IsWellMade vs → (some_invalid vs || nat_le 256 (most_levels vs)) ≡ false → l ≡ canonical kind (all_leaves vs) → IsWellMade (Coll kind l)
+pub made_flattened_well : (kind : Kind) (vs l : List Value) → AllByRecursion IsWellMade vs → (some_invalid vs || nat_le 256 (most_levels vs)) ≡ false
+    → l ≡ canonical kind (all_leaves vs) → IsWellMade (Coll kind l)
 made_flattened_well kind vs l well fit is =
     let split = neither (some_invalid vs) (nat_le 256 (most_levels vs)) fit in
     parts_well kind (all_leaves vs) l (all_leaves_fit vs (parts vs well split.0 (low_from (most_levels vs) split.1))) is

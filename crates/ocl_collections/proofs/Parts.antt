@@ -75,7 +75,8 @@ well_canon kind vs all =
     let split = neither (some_invalid vs) (nat_le 256 (most_levels vs)) e in
     parts_well kind vs (canonical kind vs) (parts vs all split.0 (low_from (most_levels vs) split.1)) refl)
 
-pub made_well : (kind : Kind) (vs l : List Value) → AllByRecursion IsWellMade vs → (some_invalid vs || nat_le 256 (most_levels vs)) ≡ false → l ≡ canonical kind vs → IsWellMade (Coll kind l)
+pub made_well : (kind : Kind) (vs l : List Value) → AllByRecursion IsWellMade vs → (some_invalid vs || nat_le 256 (most_levels vs)) ≡ false
+    → l ≡ canonical kind vs → IsWellMade (Coll kind l)
 made_well kind vs l all fit is =
     let split = neither (some_invalid vs) (nat_le 256 (most_levels vs)) fit in
     parts_well kind vs l (parts vs all split.0 (low_from (most_levels vs) split.1)) is

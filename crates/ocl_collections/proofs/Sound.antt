@@ -1,5 +1,7 @@
 -- What the operations give is well made.
-use Rattle.std.proofs.Common.{◌≡◌, ℕ, zero, suc, ◌+◌, ◌-◌, ◌≤◌, not, Bool, true, false, if◌then◌else◌, All, List, [], ◌∷◌, ◌++◌, length, take, drop, reverse, filter, map, fold, get_or, refl, ap, sym, subst, ℤ, pos, negsuc, ◌+ℤ◌, ◌-ℤ◌, ◌*ℤ◌, neg_ℤ, int_div, unsigned_abs, max, Option, Some, None, Ordering, is_eq, Result, Ok, Err, IfOk, arith}
+use Rattle.std.proofs.Common.{◌≡◌, ℕ, zero, suc, ◌+◌, ◌-◌, ◌≤◌, not, Bool, true, false, if◌then◌else◌, All, List, [], ◌∷◌, ◌++◌, length, take, drop, reverse}
+use Rattle.std.proofs.Common.{filter, map, fold, get_or, refl, ap, sym, subst, ℤ, pos, negsuc, ◌+ℤ◌, ◌-ℤ◌, ◌*ℤ◌, neg_ℤ, int_div, unsigned_abs, max, Option}
+use Rattle.std.proofs.Common.{Some, None, Ordering, is_eq, Result, Ok, Err, IfOk, arith}
 use Rattle.std.specs.List.{AllByRecursion, zip}
 use mathlib.Core.List.{reverse_aux}
 use Rattle.std.specs.Int.{int_min, int_max}
@@ -64,8 +66,12 @@ well_quotient a (negsuc n) = well_int_value (int_div a (negsuc n))
 
 well_remainder : (a b : ℤ) → IsWellMade (remainder a b)
 well_remainder a (pos zero) = well_Invalid
-well_remainder a (pos (suc n)) = well_or_invalid (in_range (int_div a (pos (suc n)))) (int_value (a -ℤ int_div a (pos (suc n)) *ℤ (pos (suc n)))) (well_int_value (a -ℤ int_div a (pos (suc n)) *ℤ (pos (suc n))))
-well_remainder a (negsuc n) = well_or_invalid (in_range (int_div a (negsuc n))) (int_value (a -ℤ int_div a (negsuc n) *ℤ (negsuc n))) (well_int_value (a -ℤ int_div a (negsuc n) *ℤ (negsuc n)))
+well_remainder a (pos (suc n)) =
+    well_or_invalid (in_range (int_div a (pos (suc n)))) (int_value (a -ℤ int_div a (pos (suc n)) *ℤ (pos (suc n))))
+    (well_int_value (a -ℤ int_div a (pos (suc n)) *ℤ (pos (suc n))))
+well_remainder a (negsuc n) =
+    well_or_invalid (in_range (int_div a (negsuc n))) (int_value (a -ℤ int_div a (negsuc n) *ℤ (negsuc n)))
+    (well_int_value (a -ℤ int_div a (negsuc n) *ℤ (negsuc n)))
 
 well_int_one : (op : IntOp) (a : ℤ) → IsWellMade (int_of_one op a)
 well_int_one I.Neg a = well_int_value (neg_ℤ a)
@@ -192,7 +198,9 @@ well_at_place kind xs (pos i) all = well_or_invalid _ _ (well_at (i - 1) xs all)
 well_at_place kind xs (negsuc i) all = well_Invalid
 
 well_part : (kind : Kind) (xs : List Value) (l u : ℤ) → Wells xs → IsWellMade (part kind xs l u)
-well_part kind xs (pos l) (pos u) all = well_or_invalid _ _ (well_canon kind (take (u + 1 - l) (drop (l - 1) xs)) (taken IsWellMade (u + 1 - l) (drop (l - 1) xs) (dropped IsWellMade (l - 1) xs all)))
+well_part kind xs (pos l) (pos u) all =
+    well_or_invalid _ _
+    (well_canon kind (take (u + 1 - l) (drop (l - 1) xs)) (taken IsWellMade (u + 1 - l) (drop (l - 1) xs) (dropped IsWellMade (l - 1) xs all)))
 well_part kind xs (pos l) (negsuc u) all = well_Invalid
 well_part kind xs (negsuc l) u all = well_Invalid
 
@@ -228,7 +236,9 @@ well_difference K.Set xs K.Set ys all = well_canon K.Set (without value_cmp xs y
 well_difference _ xs _ ys all = well_Invalid
 
 well_symmetric : (kind : Kind) (xs : List Value) (other : Kind) (ys : List Value) → Wells xs → Wells ys → IsWellMade (symmetric_difference kind xs other ys)
-well_symmetric K.Set xs K.Set ys all more = well_canon K.Set (without value_cmp xs ys ++ without value_cmp ys xs) (both IsWellMade (without value_cmp xs ys) (without value_cmp ys xs) (without_all xs ys all) (without_all ys xs more))
+well_symmetric K.Set xs K.Set ys all more =
+    well_canon K.Set (without value_cmp xs ys ++ without value_cmp ys xs)
+    (both IsWellMade (without value_cmp xs ys) (without value_cmp ys xs) (without_all xs ys all) (without_all ys xs more))
 well_symmetric _ xs _ ys all more = well_Invalid
 
 -- the table
@@ -263,12 +273,14 @@ well_with_integer : (v : Value) (f : ℤ → Value) → ((n : ℤ) → IsWellMad
 well_with_integer (Int n) f well = well n
 well_with_integer _ f well = well_Invalid
 
-row_wells : {m : _} (row : Row_of-Value m) → AreTidy row → some_invalid (items-the_row-Value m row) ≡ false → 1 + row_levels row ≤ 256 → Wells (items-the_row-Value m row)
+row_wells : {m : _} (row : Row_of-Value m) → AreTidy row → some_invalid (items-the_row-Value m row) ≡ false → 1 + row_levels row ≤ 256
+    → Wells (items-the_row-Value m row)
 row_wells {m} row tidy none low =
     let same = levels_row m row in
     parts_are_well (items-the_row-Value m row) (parts_in (items-the_row-Value m row) (row_tidy m row tidy) none (omega (arith, same, low)))
 
-well_with_collection : (v : Value) (f : Kind → List Value → Value) → IsWellMade v → ((kind : Kind) (all : List Value) → Wells all → IsWellMade (f kind all)) → IsWellMade (with_collection v f)
+well_with_collection : (v : Value) (f : Kind → List Value → Value) → IsWellMade v → ((kind : Kind) (all : List Value) → Wells all → IsWellMade (f kind all))
+    → IsWellMade (with_collection v f)
 well_with_collection (Coll' kind shape row) f well each = each kind (items-the_row-Value _ row) (row_wells row well.tidy.2 well.tidy.1 well.levels)
 well_with_collection _ f well each = well_Invalid
 
@@ -289,8 +301,12 @@ well_of_one op kind xs x all one = well_pair_with op kind xs x all one
 
 well_of_two : (op : CollOp) (kind : Kind) (xs : List Value) (x y : Value) → Wells xs → IsWellMade y → IsWellMade (of_two op kind xs x y)
 well_of_two C.InsertAt kind xs x y all one = well_with_integer x (λ i. insert_at kind xs i y) (λ i. well_insert_at kind xs i y all one)
-well_of_two C.SubSequence kind xs x y all one = well_with_integer x (λ l. with_integer y (sub_sequence kind xs l)) (λ l. well_with_integer y (sub_sequence kind xs l) (λ u. well_sub_sequence kind xs l u all))
-well_of_two C.SubOrderedSet kind xs x y all one = well_with_integer x (λ l. with_integer y (sub_ordered_set kind xs l)) (λ l. well_with_integer y (sub_ordered_set kind xs l) (λ u. well_sub_ordered_set kind xs l u all))
+well_of_two C.SubSequence kind xs x y all one =
+    well_with_integer x (λ l. with_integer y (sub_sequence kind xs l))
+    (λ l. well_with_integer y (sub_sequence kind xs l) (λ u. well_sub_sequence kind xs l u all))
+well_of_two C.SubOrderedSet kind xs x y all one =
+    well_with_integer x (λ l. with_integer y (sub_ordered_set kind xs l))
+    (λ l. well_with_integer y (sub_ordered_set kind xs l) (λ u. well_sub_ordered_set kind xs l u all))
 well_of_two _ kind xs x y all one = well_Invalid
 
 well_of_collection : (op : CollOp) (args : List Value) (kind : Kind) (xs : List Value) → Wells args → Wells xs → IsWellMade (of_collection op args kind xs)
@@ -306,8 +322,10 @@ well_op op source args well given =
     (λ _. well_with_collection source (of_collection op args) well (λ kind all each. well_of_collection op args kind all (recursion_from_All IsWellMade args given) each))
 
 -- the same where a match found the elements
-pub well_given : (op : CollOp) (args : List Value) (kind : Kind) (all : List Value) → IsWellMade (Coll kind all) → All IsWellMade args → IsWellMade (of_collection op args kind all)
-well_given op args kind all well given = well_of_collection op args kind all (recursion_from_All IsWellMade args given) (parts_are_well all (parts_of kind all well))
+pub well_given : (op : CollOp) (args : List Value) (kind : Kind) (all : List Value) → IsWellMade (Coll kind all) → All IsWellMade args
+    → IsWellMade (of_collection op args kind all)
+well_given op args kind all well given =
+    well_of_collection op args kind all (recursion_from_All IsWellMade args given) (parts_are_well all (parts_of kind all well))
 
 -- sorting by keys
 
@@ -324,8 +342,10 @@ well_sorted : (items keys : List Value) → All IsWellMade items → All IsWellM
 well_sorted items keys all =
     let pairs = zip keys items in
     let order : Value × Value → Value × Value → Ordering = λ a b. value_cmp a.0 b.0 in
-    All-from_recursion IsWellMade _ (well_seconds (bag_of order pairs) (all_bag order (λ pair. IsWellMade pair.1) pairs (well_beside keys items (recursion_from_All IsWellMade items all))))
+    All-from_recursion IsWellMade _
+    (well_seconds (bag_of order pairs) (all_bag order (λ pair. IsWellMade pair.1) pairs (well_beside keys items (recursion_from_All IsWellMade items all))))
 
-pub sorted_result : {R E : Type 0} (r : Result R E) (list : R → List Value) (items keys : List Value) → All IsWellMade items → IfOk r (λ v. list v ≡ by_keys items keys) → IfOk r (λ v. All IsWellMade (list v))
+pub sorted_result : {R E : Type 0} (r : Result R E) (list : R → List Value) (items keys : List Value) → All IsWellMade items
+    → IfOk r (λ v. list v ≡ by_keys items keys) → IfOk r (λ v. All IsWellMade (list v))
 sorted_result (Ok v) list items keys all is = subst (All IsWellMade) (sym is) (well_sorted items keys all)
 sorted_result (Err e) list items keys all is = is

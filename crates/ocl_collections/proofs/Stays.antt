@@ -1,5 +1,6 @@
 -- Where elements stand as their kind keeps them, and as another does.
-use Rattle.std.proofs.Common.{◌≡◌, ◌+◌, ◌≤◌, ◌++◌, ◌∷◌, [], ℕ, zero, suc, Bool, true, false, cond, if◌then◌else◌, List, take, drop, reverse, refl, sym, ap, ◌∙◌, subst, true≢false}
+use Rattle.std.proofs.Common.{◌≡◌, ◌+◌, ◌≤◌, ◌++◌, ◌∷◌, [], ℕ, zero, suc, Bool, true, false, cond, if◌then◌else◌, List, take, drop, reverse, refl, sym, ap}
+use Rattle.std.proofs.Common.{◌∙◌, subst, true≢false}
 use mathlib.Core.List.{reverse_aux}
 use Rattle.std.specs.List.{AllByRecursion}
 use Rattle.use_orders.specs.Canon.{has, set_of, firsts_of, selected}
@@ -42,15 +43,19 @@ selected_same OrderedSet xs flags well = firsts_selected value_cmp value_total x
 selected_same Bag xs flags well = bag_selected value_total xs flags (bag_up Bag xs well refl)
 selected_same Sequence xs flags well = refl
 
-pub selection_is : (kind : Kind) (xs l : List Value) (flags : List Bool) → IsWellMade (Coll kind xs) → l ≡ selected xs flags → Coll kind l ≡ canon kind (selected xs flags)
-selection_is kind xs l flags well is = of_parts kind (selected xs flags) l (all_selected IsPart xs flags (parts_of kind xs well)) (is ∙ sym (selected_same kind xs flags well))
+pub selection_is : (kind : Kind) (xs l : List Value) (flags : List Bool) → IsWellMade (Coll kind xs) → l ≡ selected xs flags
+    → Coll kind l ≡ canon kind (selected xs flags)
+selection_is kind xs l flags well is =
+    of_parts kind (selected xs flags) l (all_selected IsPart xs flags (parts_of kind xs well)) (is ∙ sym (selected_same kind xs flags well))
 
 pub selection_well : (kind : Kind) (xs l : List Value) (flags : List Bool) → IsWellMade (Coll kind xs) → l ≡ selected xs flags → IsWellMade (Coll kind l)
-selection_well kind xs l flags well is = parts_well kind (selected xs flags) l (all_selected IsPart xs flags (parts_of kind xs well)) (is ∙ sym (selected_same kind xs flags well))
+selection_well kind xs l flags well is =
+    parts_well kind (selected xs flags) l (all_selected IsPart xs flags (parts_of kind xs well)) (is ∙ sym (selected_same kind xs flags well))
 
 -- kinds with places
 
-placed : (kind : Kind) (l : List Value) → has_places kind ≡ true → AllByRecursion IsPart l → (kind ≡ OrderedSet → firsts_of value_cmp l ≡ l) → Coll kind l ≡ canon kind l
+placed : (kind : Kind) (l : List Value) → has_places kind ≡ true → AllByRecursion IsPart l → (kind ≡ OrderedSet → firsts_of value_cmp l ≡ l)
+    → Coll kind l ≡ canon kind l
 placed Set l at all is = absurd (true≢false (sym at))
 placed OrderedSet l at all is = of_parts OrderedSet l l all (sym (is refl))
 placed Bag l at all is = absurd (true≢false (sym at))
@@ -68,7 +73,8 @@ all_turned : {X : Type 0} (P : X → Type 0) (xs done : List X) → AllByRecursi
 all_turned P [] done all rest = rest
 all_turned P (x ∷ xs) done all rest = all_turned P xs (x ∷ done) all.1 (all.0, rest)
 
-pub part_is : (kind : Kind) (xs l : List Value) (m n : ℕ) → IsWellMade (Coll kind xs) → has_places kind ≡ true → l ≡ take m (drop n xs) → Coll kind l ≡ canon kind (take m (drop n xs))
+pub part_is : (kind : Kind) (xs l : List Value) (m n : ℕ) → IsWellMade (Coll kind xs) → has_places kind ≡ true → l ≡ take m (drop n xs)
+    → Coll kind l ≡ canon kind (take m (drop n xs))
 part_is kind xs l m n well at is =
     ap (Coll kind) is
     ∙ placed kind (take m (drop n xs)) at (all_taken IsPart m (drop n xs) (all_dropped IsPart n xs (parts_of kind xs well)))
@@ -84,14 +90,16 @@ new_at : (kind : Kind) (xs : List Value) (x : Value) → kind ≡ OrderedSet →
 new_at kind xs x e no_more = sym (ap (λ k. holds k xs x) e) ∙ no_more
 
 -- an element that an OrderedSet has
-pub put_there : (kind : Kind) (n : ℕ) (xs l : List Value) (x : Value) → IsWellMade (Coll kind xs) → holds kind xs x ≡ true → l ≡ xs → Coll kind l ≡ canon kind (put kind n xs x)
+pub put_there : (kind : Kind) (n : ℕ) (xs l : List Value) (x : Value) → IsWellMade (Coll kind xs) → holds kind xs x ≡ true → l ≡ xs
+    → Coll kind l ≡ canon kind (put kind n xs x)
 put_there kind n xs l x well there is =
     ap (Coll kind) is ∙ sym (canon_same kind xs well (kept_of kind xs well)) ∙ ap (λ b. canon kind (cond b xs (take n xs ++ x ∷ drop n xs))) (sym there)
 
 pub put_unfit : (kind : Kind) (n : ℕ) (xs : List Value) (x : Value) → holds kind xs x ≡ false → is_unfit x ≡ true → Invalid ≡ canon kind (put kind n xs x)
 put_unfit kind n xs x new unfit = none_with kind (take n xs) x (drop n xs) unfit ∙ ap (λ b. canon kind (cond b xs (take n xs ++ x ∷ drop n xs))) (sym new)
 
-pub put_new : (kind : Kind) (n : ℕ) (xs l : List Value) (x : Value) → IsWellMade (Coll kind xs) → IsWellMade x → has_places kind ≡ true → holds kind xs x ≡ false → is_unfit x ≡ false
+pub put_new : (kind : Kind) (n : ℕ) (xs l : List Value) (x : Value) → IsWellMade (Coll kind xs) → IsWellMade x → has_places kind ≡ true
+    → holds kind xs x ≡ false → is_unfit x ≡ false
     → l ≡ take n xs ++ x ∷ drop n xs → Coll kind l ≡ canon kind (put kind n xs x)
 put_new kind n xs l x well one at new fit is =
     ap (Coll kind) is

@@ -7,7 +7,10 @@ use Rattle.ocl_values.specs.declared.value.Value.{Value}
 use Rattle.ocl_values.specs.declared.value.Value.TheVariants as V
 use Rattle.ocl_values.specs.declared.value.Value.TheVariants.{Invalid, Int}
 use Rattle.ocl_collections.specs.declared.op.CollOp.{CollOp}
-use Rattle.ocl_collections.specs.declared.op.CollOp.TheVariants.{Size, IsEmpty, NotEmpty, Includes, Excludes, Count, IncludesAll, ExcludesAll, Including, Excluding, Union, Intersection, Minus, SymmetricDifference, Append, Prepend, InsertAt, At, First, Last, IndexOf, SubSequence, SubOrderedSet, Reverse, Sum, Max, Min, AsSet, AsBag, AsSequence, AsOrderedSet, Flatten}
+use Rattle.ocl_collections.specs.declared.op.CollOp.TheVariants.{Size, IsEmpty, NotEmpty, Includes, Excludes, Count, IncludesAll, ExcludesAll, Including}
+use Rattle.ocl_collections.specs.declared.op.CollOp.TheVariants.{Excluding, Union, Intersection, Minus, SymmetricDifference, Append, Prepend, InsertAt, At}
+use Rattle.ocl_collections.specs.declared.op.CollOp.TheVariants.{First, Last, IndexOf, SubSequence, SubOrderedSet, Reverse, Sum, Max, Min, AsSet, AsBag}
+use Rattle.ocl_collections.specs.declared.op.CollOp.TheVariants.{AsSequence, AsOrderedSet, Flatten}
 use Rattle.ocl_collections.specs.Arguments.{with_integer, with_collection}
 use Rattle.ocl_collections.specs.Membership.{is_empty, includes, count, includes_all, excludes_all}
 use Rattle.ocl_collections.specs.Adding.{including, excluding}

@@ -8,6 +8,7 @@ use std::test::Fail;
 
 mod algebra;
 mod membership;
+mod moved;
 mod places;
 
 /// No object and no literal.
@@ -77,14 +78,20 @@ fn element(alloc: Global, letter: u8) -> Result<Value, AllocError>
     }
 }
 
-fn collection(alloc: Global, kind: Kind, letters: &str) -> Result<Value, AllocError>
-    ensures { IfOk result IsWellMade }
+fn elements(alloc: Global, letters: &str) -> Result<Vec<Value>, AllocError>
+    ensures { IfOk result (λ v. All IsWellMade v.items) }
 {
     let mut values = Vec::new(alloc);
     'each: for letter in letters.as_bytes() {
         values.push(element(alloc, *letter)?)?;
     }
-    make(alloc, kind, values)
+    Ok(values)
+}
+
+fn collection(alloc: Global, kind: Kind, letters: &str) -> Result<Value, AllocError>
+    ensures { IfOk result IsWellMade }
+{
+    make(alloc, kind, elements(alloc, letters)?)
 }
 
 fn argument(alloc: Global, arg: Arg) -> Result<Value, AllocError>

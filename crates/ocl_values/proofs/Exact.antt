@@ -1,5 +1,6 @@
 -- The order of values is by rank, and of two values that it does not tell apart, each is the other.
-use Rattle.std.proofs.Common.{◌≡◌, List, [], ◌∷◌, map, ℕ, T, true, false, true≢false, Less, Equal, Greater, Ordering, ◌↔◌, refl, sym, ap, ap₂, ◌∙◌, subst, is_eq}
+use Rattle.std.proofs.Common.{◌≡◌, List, [], ◌∷◌, map, ℕ, T, true, false, true≢false, Less, Equal, Greater, Ordering, ◌↔◌, refl, sym, ap, ap₂, ◌∙◌, subst}
+use Rattle.std.proofs.Common.{is_eq}
 use Rattle.std.specs.Cmp.{IsTotalOrder}
 use Rattle.std.specs.Cmp.Lexicographic.{slice_cmp}
 use Rattle.std.proofs.lemmas.Cmp.{tied_itself}
@@ -95,11 +96,14 @@ step_is r (Enum e l) (Enum f m) = refl
 step_is r (Enum e l) _ = refl
 step_is r (Obj a) (Obj b) = refl
 step_is r (Obj a) _ = refl
-step_is r (Coll' k s p) (Coll' l t q) = ap (λ o. ordering_then o (slice_cmp (r B.member-Value) (B.shown-the_row-Value-0 s p) (B.shown-the_row-Value-0 t q))) (kinds_by_rank k l)
+step_is r (Coll' k s p) (Coll' l t q) =
+    ap (λ o. ordering_then o (slice_cmp (r B.member-Value) (B.shown-the_row-Value-0 s p) (B.shown-the_row-Value-0 t q))) (kinds_by_rank k l)
 step_is r (Coll' k s p) _ = refl
 
 cmp_is : (u v : Value) → value_cmp u v ≡ layer value_cmp (out-Value u) (out-Value v)
-cmp_is u v = C.compared_is B.the_members B.the_family B.the_depth Ordering Equal the_step local B.member-Value u v ∙ step_is (C.compared B.the_members B.the_family B.the_depth Ordering Equal the_step) u v
+cmp_is u v =
+    C.compared_is B.the_members B.the_family B.the_depth Ordering Equal the_step local B.member-Value u v
+    ∙ step_is (C.compared B.the_members B.the_family B.the_depth Ordering Equal the_step) u v
 
 layer_is : (r : Value → Value → Ordering) (u v : Value) → layer r (out-Value u) (out-Value v) ≡ by_rank r u v
 unfolding out-Value denote.Hole.Carrier.out
@@ -117,7 +121,8 @@ layer_is r (Enum e l) (Enum f m) = refl
 layer_is r (Enum e l) _ = refl
 layer_is r (Obj a) (Obj b) = refl
 layer_is r (Obj a) _ = refl
-layer_is r (Coll' k s p) (Coll' l t q) = ap₂ (λ xs ys. ordering_then (nat_cmp (kind_rank k) (kind_rank l)) (slice_cmp r xs ys)) (items_shown-the_row-Value-0 s p) (items_shown-the_row-Value-0 t q)
+layer_is r (Coll' k s p) (Coll' l t q) =
+    ap₂ (λ xs ys. ordering_then (nat_cmp (kind_rank k) (kind_rank l)) (slice_cmp r xs ys)) (items_shown-the_row-Value-0 s p) (items_shown-the_row-Value-0 t q)
 layer_is r (Coll' k s p) _ = refl
 
 -- the derived order is the one by rank
@@ -130,7 +135,8 @@ bools_same true false e = greater_equal _ e
 bools_same false true e = less_equal _ e
 bools_same false false e = refl
 
-lists_same : {A : Type 0} (f : A → Value) (R : Value → Value → Ordering) → ((a : A) (b : Value) → R (f a) b ≡ Equal → f a ≡ b) → (xs : List A) (ys : List Value) → slice_cmp R (map f xs) ys ≡ Equal → map f xs ≡ ys
+lists_same : {A : Type 0} (f : A → Value) (R : Value → Value → Ordering) → ((a : A) (b : Value) → R (f a) b ≡ Equal → f a ≡ b) → (xs : List A) (ys : List Value)
+    → slice_cmp R (map f xs) ys ≡ Equal → map f xs ≡ ys
 lists_same f R good [] [] e = refl
 lists_same f R good [] (y ∷ ys) e = less_equal _ e
 lists_same f R good (x ∷ xs) [] e = greater_equal _ e

@@ -1,5 +1,6 @@
 -- Where a text stands in another, by bytes and by characters.
-use Rattle.std.proofs.Common.{◌≡◌, ◌≢◌, ℕ, zero, suc, ◌+◌, ◌<◌, ◌≤◌, List, [], ◌∷◌, ◌++◌, length, take, drop, nat_eq, ap, sym, refl, ◌∙◌, Bool, true, false, if◌then◌else◌, append_assoc, arith}
+use Rattle.std.proofs.Common.{◌≡◌, ◌≢◌, ℕ, zero, suc, ◌+◌, ◌<◌, ◌≤◌, List, [], ◌∷◌, ◌++◌, length, take, drop, nat_eq, ap, sym, refl, ◌∙◌, Bool, true, false}
+use Rattle.std.proofs.Common.{if◌then◌else◌, append_assoc, arith}
 use Rattle.std.specs.Cmp.Lexicographic.{pointwise, same_text}
 use Rattle.std.specs.List.{starts_with}
 use Rattle.std.specs.Str.{chars, encode_utf8_all, IsUtf8, IsCharBoundary}
@@ -31,7 +32,8 @@ later : (m n : ℕ) → m ≡ n + 1 → one_later m ≡ n + 1 + 1
 later zero n e = absurd (omega arith)
 later (suc m) n e = omega arith
 
-pub index_first : (ts cs ds : List ℕ) → starts_with nat_eq ds ts ≡ true → ((fs gs : List ℕ) → cs ≡ fs ++ gs → 0 < length gs → starts_with nat_eq (gs ++ ds) ts ≡ false) → index_of ts (cs ++ ds) ≡ length cs + 1
+pub index_first : (ts cs ds : List ℕ) → starts_with nat_eq ds ts ≡ true
+    → ((fs gs : List ℕ) → cs ≡ fs ++ gs → 0 < length gs → starts_with nat_eq (gs ++ ds) ts ≡ false) → index_of ts (cs ++ ds) ≡ length cs + 1
 index_first ts [] [] here before = ap (λ b. if b then 1 else 0) here
 index_first ts [] (d ∷ ds) here before = ap (λ b. if b then 1 else one_later (index_of ts ds)) here
 index_first ts (c ∷ cs) ds here before =
@@ -46,7 +48,8 @@ index_none ts (c ∷ cs) never =
     ap (λ b. if b then 1 else one_later (index_of ts cs)) (never [] (c ∷ cs) refl) ∙ ap one_later rest
 
 -- characters do not stand where their bytes do not
-lacking : (s t fs xs : List ℕ) → IsUtf8 t → s ≡ encode_utf8_all (fs ++ xs) → LacksTextAt t s (length (encode_utf8_all fs)) → starts_with nat_eq xs (chars t) ≡ false
+lacking : (s t fs xs : List ℕ) → IsUtf8 t → s ≡ encode_utf8_all (fs ++ xs) → LacksTextAt t s (length (encode_utf8_all fs))
+    → starts_with nat_eq xs (chars t) ≡ false
 lacking s t fs xs v whole lacks = not_begun (chars t) xs (λ rs e.
     lacks (encode_utf8_all rs) (
     ap (drop (length (encode_utf8_all fs))) (whole ∙ encodes-append fs xs) ∙ drop-append_seam (encode_utf8_all fs) (encode_utf8_all xs)
@@ -54,7 +57,8 @@ lacking s t fs xs v whole lacks = not_begun (chars t) xs (λ rs e.
 
 module _ (s t : List ℕ) (u : IsUtf8 s) (v : IsUtf8 t) where
   -- the place of the first occurrence
-  pub found_at : (at j : ℕ) → IsCharBoundary s at → ((i : ℕ) → i < at → LacksTextAt t s i) → HasTextAt t s at j → length (chars (take at s)) + 1 ≡ index_of (chars t) (chars s)
+  pub found_at : (at j : ℕ) → IsCharBoundary s at → ((i : ℕ) → i < at → LacksTextAt t s i) → HasTextAt t s at j
+      → length (chars (take at s)) + 1 ≡ index_of (chars t) (chars s)
   found_at at j cut before here =
       let front = take at s in
       let back = drop at s in

@@ -1,5 +1,6 @@
 -- The integer that a text writes, by its bytes and by its characters.
-use Rattle.std.proofs.Common.{◌≡◌, ◌≢◌, ◌==◌, ℕ, zero, suc, ◌+◌, ◌-◌, ◌*◌, ◌^◌, ◌<◌, ◌≤◌, List, [], ◌∷◌, length, get_or, fold, ap, sym, refl, ◌∙◌, subst, Bool, true, false, true≢false, not, ◌&&◌, nat_eq, if◌then◌else◌, ℤ, pos, neg_ℤ, Result, Ok, Err, arith, rules}
+use Rattle.std.proofs.Common.{◌≡◌, ◌≢◌, ◌==◌, ℕ, zero, suc, ◌+◌, ◌-◌, ◌*◌, ◌^◌, ◌<◌, ◌≤◌, List, [], ◌∷◌, length, get_or, fold, ap, sym, refl, ◌∙◌, subst}
+use Rattle.std.proofs.Common.{Bool, true, false, true≢false, not, ◌&&◌, nat_eq, if◌then◌else◌, ℤ, pos, neg_ℤ, Result, Ok, Err, arith, rules}
 use Rattle.std.specs.Int.{w128}
 use Rattle.std.specs.Result.{OkIff, result_ok}
 use Rattle.std.specs.Str.{all_ascii_digits, chars, IsUtf8, IsAscii}
@@ -66,26 +67,32 @@ left_out z true h = absurd (h refl)
 left_out z false h = refl
 
 -- an answer that is there exactly where P holds, by tests of P
-decided : {E : Type 0} (r : Result ℤ E) (P : Type 0) (z : ℤ) (b : Bool) → OkIff r P z → (b ≡ true → in_range z ≡ true → P) → (P → (b ≡ true) × (in_range z ≡ true)) → checked (result_ok r) ≡ (if b then int_value z else Invalid)
+decided : {E : Type 0} (r : Result ℤ E) (P : Type 0) (z : ℤ) (b : Bool) → OkIff r P z → (b ≡ true → in_range z ≡ true → P)
+    → (P → (b ≡ true) × (in_range z ≡ true)) → checked (result_ok r) ≡ (if b then int_value z else Invalid)
 decided (Ok x) P z b h to from =
     let tests = from h.0 in
     ap Int h.1 ∙ sym (ap (λ t. if t then Int z else Invalid) tests.1) ∙ sym (ap (λ t. if t then int_value z else Invalid) tests.0)
 decided (Err e) P z false h to from = refl
 decided (Err e) P z true h to from = left_out z (in_range z) (λ t. h (to refl t))
 
-after_minus : {E : Type 0} (r : Result ℤ E) (cs : List ℕ) → ParsesSigned w128 10 (45 ∷ cs) r → checked (result_ok r) ≡ (if is_numeral cs then int_value (neg_ℤ (pos (number_of cs))) else Invalid)
+after_minus : {E : Type 0} (r : Result ℤ E) (cs : List ℕ) → ParsesSigned w128 10 (45 ∷ cs) r
+    → checked (result_ok r) ≡ (if is_numeral cs then int_value (neg_ℤ (pos (number_of cs))) else Invalid)
 after_minus r cs h =
-    decided r ((all_ascii_digits cs ≡ true) × (0 < length cs) × (number_of cs ≤ 2 ^ 127)) (neg_ℤ (pos (number_of cs))) (is_numeral cs) (parse_signed_minus own w128 (45 ∷ cs) r h refl)
+    decided r ((all_ascii_digits cs ≡ true) × (0 < length cs) × (number_of cs ≤ 2 ^ 127)) (neg_ℤ (pos (number_of cs))) (is_numeral cs)
+    (parse_signed_minus own w128 (45 ∷ cs) r h refl)
     (λ e t. let p = numeral_parts cs e in (p.0, p.1, fits_negative (number_of cs) t))
     (λ p. (parts_numeral cs p.0 p.1, negative_fits (number_of cs) p.2))
 
-plain : {E : Type 0} (r : Result ℤ E) (cs : List ℕ) → ParsesSigned w128 10 cs r → get_or cs 0 0 ≢ 43 → get_or cs 0 0 ≢ 45 → checked (result_ok r) ≡ (if is_numeral cs then int_value (pos (number_of cs)) else Invalid)
+plain : {E : Type 0} (r : Result ℤ E) (cs : List ℕ) → ParsesSigned w128 10 cs r → get_or cs 0 0 ≢ 43 → get_or cs 0 0 ≢ 45
+    → checked (result_ok r) ≡ (if is_numeral cs then int_value (pos (number_of cs)) else Invalid)
 plain r cs h plus minus =
-    decided r ((all_ascii_digits cs ≡ true) × (0 < length cs) × (number_of cs < 2 ^ 127)) (pos (number_of cs)) (is_numeral cs) (parse_signed_plain own w128 cs r h plus minus)
+    decided r ((all_ascii_digits cs ≡ true) × (0 < length cs) × (number_of cs < 2 ^ 127)) (pos (number_of cs)) (is_numeral cs)
+    (parse_signed_plain own w128 cs r h plus minus)
     (λ e t. let p = numeral_parts cs e in (p.0, p.1, fitted (number_of cs) t))
     (λ p. (parts_numeral cs p.0 p.1, fits (number_of cs) p.2))
 
-split_at : (c : ℕ) (b : Bool) → (c == 45) ≡ b → {E : Type 0} (r : Result ℤ E) (cs : List ℕ) → ParsesSigned w128 10 (c ∷ cs) r → c ≢ 43 → checked (result_ok r) ≡ (if b then (if is_numeral cs then int_value (neg_ℤ (pos (number_of cs))) else Invalid) else (if is_numeral (c ∷ cs) then int_value (pos (number_of (c ∷ cs))) else Invalid))
+split_at : (c : ℕ) (b : Bool) → (c == 45) ≡ b → {E : Type 0} (r : Result ℤ E) (cs : List ℕ) → ParsesSigned w128 10 (c ∷ cs) r → c ≢ 43
+    → checked (result_ok r) ≡ (if b then (if is_numeral cs then int_value (neg_ℤ (pos (number_of cs))) else Invalid) else (if is_numeral (c ∷ cs) then int_value (pos (number_of (c ∷ cs))) else Invalid))
 split_at c true e r cs h plus =
     let is : c ≡ 45 = grind (arith, nat_tests) in
     after_minus r cs (subst (λ d. ParsesSigned w128 10 (d ∷ cs) r) is h)
@@ -115,7 +122,8 @@ writes_ascii : (xs : List ℕ) → writes xs ≡ true → IsAscii xs
 writes_ascii [] e = absurd (true≢false (sym e))
 writes_ascii (c ∷ cs) e = one_ascii c cs (c == 45) refl e
 
-one_other : (c : ℕ) (cs : List ℕ) (b : Bool) → (if b then is_numeral cs else is_numeral (c ∷ cs)) ≡ false → (if b then (if is_numeral cs then int_value (neg_ℤ (pos (number_of cs))) else Invalid) else (if is_numeral (c ∷ cs) then int_value (pos (number_of (c ∷ cs))) else Invalid)) ≡ Invalid
+one_other : (c : ℕ) (cs : List ℕ) (b : Bool) → (if b then is_numeral cs else is_numeral (c ∷ cs)) ≡ false
+    → (if b then (if is_numeral cs then int_value (neg_ℤ (pos (number_of cs))) else Invalid) else (if is_numeral (c ∷ cs) then int_value (pos (number_of (c ∷ cs))) else Invalid)) ≡ Invalid
 one_other c cs true e = ap (λ t. if t then int_value (neg_ℤ (pos (number_of cs))) else Invalid) e
 one_other c cs false e = ap (λ t. if t then int_value (pos (number_of (c ∷ cs))) else Invalid) e
 
@@ -123,7 +131,8 @@ writes_other : (xs : List ℕ) → writes xs ≡ false → integer_of xs ≡ Inv
 writes_other [] e = refl
 writes_other (c ∷ cs) e = one_other c cs (c == 45) e
 
-either : (xs ys : List ℕ) (a b : Bool) → writes xs ≡ a → writes ys ≡ b → (writes xs ≡ true → xs ≡ ys) → (writes ys ≡ true → xs ≡ ys) → integer_of xs ≡ integer_of ys
+either : (xs ys : List ℕ) (a b : Bool) → writes xs ≡ a → writes ys ≡ b → (writes xs ≡ true → xs ≡ ys) → (writes ys ≡ true → xs ≡ ys)
+    → integer_of xs ≡ integer_of ys
 either xs ys true b p q left right = ap integer_of (left p)
 either xs ys false true p q left right = ap integer_of (right q)
 either xs ys false false p q left right = writes_other xs p ∙ sym (writes_other ys q)
@@ -138,4 +147,5 @@ chars_integer s u = either (chars s) s (writes (chars s)) (writes s) refl refl
 pub plus_integer : (s : List ℕ) → get_or s 0 0 ≡ 43 → integer_of s ≡ Invalid
 plus_integer [] e = refl
 plus_integer (c ∷ cs) e =
-    subst (λ d. integer_of (d ∷ cs) ≡ Invalid) (sym e) (ap (λ t. if t then int_value (pos (number_of (43 ∷ cs))) else Invalid) (and_false (not (nat_eq (length (43 ∷ cs)) 0))))
+    subst (λ d. integer_of (d ∷ cs) ≡ Invalid) (sym e)
+    (ap (λ t. if t then int_value (pos (number_of (43 ∷ cs))) else Invalid) (and_false (not (nat_eq (length (43 ∷ cs)) 0))))

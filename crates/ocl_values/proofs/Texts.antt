@@ -1,5 +1,6 @@
 -- The text of a collection, by the texts of its elements.
-use Rattle.std.proofs.Common.{◌≡◌, ◌==◌, ℕ, zero, suc, ◌+◌, ◌<◌, List, [], ◌∷◌, ◌++◌, length, map, take, get_or, if◌then◌else◌, ap, sym, refl, ◌∙◌, append_assoc, Option, arith}
+use Rattle.std.proofs.Common.{◌≡◌, ◌==◌, ℕ, zero, suc, ◌+◌, ◌<◌, List, [], ◌∷◌, ◌++◌, length, map, take, get_or, if◌then◌else◌, ap, sym, refl, ◌∙◌}
+use Rattle.std.proofs.Common.{append_assoc, Option, arith}
 use Rattle.std.specs.List.{join_with_byte}
 use Rattle.std.proofs.lemmas.Bool.Decides.{nat_tests}
 use Rattle.std.specs.Prelude.{codes}
@@ -16,10 +17,12 @@ module _ (object : ℕ → Option (List ℕ)) (literal : ℕ → ℕ → Option 
   texts_row n (more_of-Value v rest) = ap (λ ts. value_text object literal v ∷ ts) (texts_row _ rest)
 
   -- the text of a collection
-  pub value_text-Coll : (kind : Kind) (all : List Value) → value_text object literal (Coll kind all) ≡ kind_name kind ++ codes "{" ++ join_with_byte 44 (map (value_text object literal) all) ++ codes "}"
+  pub value_text-Coll : (kind : Kind) (all : List Value)
+      → value_text object literal (Coll kind all) ≡ kind_name kind ++ codes "{" ++ join_with_byte 44 (map (value_text object literal) all) ++ codes "}"
   value_text-Coll kind all =
       let row = row_of (Coll kind all) in
-      ap (λ ts. kind_name kind ++ codes "{" ++ join_with_byte 44 ts ++ codes "}") (texts_row row.0 row.1 ∙ ap (map (value_text object literal)) (items_hidden-the_row-Value-0 all))
+      ap (λ ts. kind_name kind ++ codes "{" ++ join_with_byte 44 ts ++ codes "}")
+      (texts_row row.0 row.1 ∙ ap (map (value_text object literal)) (items_hidden-the_row-Value-0 all))
 
 -- what stands between some texts and one more
 abbrev pub between : List (List ℕ) → List ℕ
@@ -44,12 +47,15 @@ between_at (suc i) (x ∷ xs) e = grind (arith, nat_tests)
 
 module _ (f : Value → List ℕ) (all : List Value) (i : ℕ) (v : Value) where
   -- the text of one element more
-  pub joined_more : i < length all → v ≡ get_or all i v → join_with_byte 44 (map f (take (i + 1) all)) ≡ join_with_byte 44 (map f (take i all)) ++ (if i == 0 then [] else 44 ∷ []) ++ f v
+  pub joined_more : i < length all → v ≡ get_or all i v
+      → join_with_byte 44 (map f (take (i + 1) all)) ≡ join_with_byte 44 (map f (take i all)) ++ (if i == 0 then [] else 44 ∷ []) ++ f v
   joined_more in_all is =
       let front : map f (take (i + 1) all) ≡ map f (take i all) ++ f v ∷ [] =
       ap (map f) (take_more all i v in_all ∙ ap (λ x. take i all ++ x ∷ []) (sym is)) ∙ map-append f (take i all) (v ∷ []) in
       let long : length (map f (take i all)) ≡ i = length-map (take i all) f ∙ length-take-le i all (omega arith) in
-      ap (join_with_byte 44) front ∙ join-push (map f (take i all)) (f v) ∙ ap (λ b. join_with_byte 44 (map f (take i all)) ++ b ++ f v) (between_at i (map f (take i all)) long)
+      ap (join_with_byte 44) front
+      ∙ join-push (map f (take i all)) (f v)
+      ∙ ap (λ b. join_with_byte 44 (map f (take i all)) ++ b ++ f v) (between_at i (map f (take i all)) long)
 
 -- five pieces in a row
 pub gathered : (o k a j b o1 o2 o3 o4 : List ℕ) → o1 ≡ o ++ k → o2 ≡ o1 ++ a → o3 ≡ o2 ++ j → o4 ≡ o3 ++ b → o4 ≡ o ++ (k ++ a ++ j ++ b)

@@ -1,5 +1,6 @@
 -- What the operations of String give is well made.
-use Rattle.std.proofs.Common.{◌≡◌, ℕ, ◌≤◌, Bool, true, false, List, [], ◌∷◌, map, ◌==◌, if◌then◌else◌, refl, sym, subst, ℤ, pos, neg_ℤ, negsuc, Option, Some, None, Result, Ok, Err, IfOk, arith, lit≤}
+use Rattle.std.proofs.Common.{◌≡◌, ℕ, ◌≤◌, Bool, true, false, List, [], ◌∷◌, map, ◌==◌, if◌then◌else◌, refl, sym, subst, ℤ, pos, neg_ℤ, negsuc, Option, Some}
+use Rattle.std.proofs.Common.{None, Result, Ok, Err, IfOk, arith, lit≤}
 use Rattle.std.specs.List.{AllByRecursion}
 use Rattle.std.specs.Str.{chars}
 use Rattle.ocl_values.specs.declared.string.StrOp.{StrOp}
@@ -9,7 +10,8 @@ use Rattle.ocl_values.specs.declared.value.Value.{Value}
 use Rattle.ocl_values.specs.declared.value.Value.TheVariants as V
 use Rattle.ocl_values.specs.declared.value.Value.TheVariants.{Null, Invalid, Int, Str, Enum, Obj, Coll, Coll'}
 use Rattle.ocl_values.specs.Integers.{in_range, int_value}
-use Rattle.ocl_values.specs.Strings.{no_argument, string_argument, integer_argument, integer_arguments, with, string_of, substring, integer_of, is_numeral, number_of, of_text, str_op_value}
+use Rattle.ocl_values.specs.Strings.{no_argument, string_argument, integer_argument, integer_arguments, with, string_of, substring, integer_of, is_numeral}
+use Rattle.ocl_values.specs.Strings.{number_of, of_text, str_op_value}
 use Rattle.ocl_values.specs.Shape.{most_levels, some_invalid, IsTidy, IsWellMade}
 use Rattle.ocl_values.proofs.Rows.{tidy_Coll, levels_of-Coll}
 

@@ -40,7 +40,8 @@ within_rank by (Int a) (Int b) = int_cmp a b
 within_rank by (Str a) (Str b) = slice_cmp nat_cmp a b
 within_rank by (Enum e l) (Enum f m) = ordering_then (nat_cmp e f) (nat_cmp l m)
 within_rank by (Obj a) (Obj b) = nat_cmp a b
-within_rank by (Coll' k s p) (Coll' l t q) = ordering_then (nat_cmp (kind_rank k) (kind_rank l)) (slice_cmp by (items-the_row-Value _ p) (items-the_row-Value _ q))
+within_rank by (Coll' k s p) (Coll' l t q) =
+    ordering_then (nat_cmp (kind_rank k) (kind_rank l)) (slice_cmp by (items-the_row-Value _ p) (items-the_row-Value _ q))
 within_rank by _ _ = Equal
 
 -- rank by rank; `value_cmp` is the order that this gives of itself

@@ -77,7 +77,8 @@ abbrev mutual
   IsTidy (Str bytes) = Unit {0}
   IsTidy (Enum e l) = Unit {0}
   IsTidy (Obj o) = Unit {0}
-  IsTidy (Coll' kind shape row) = (canonical kind (items-the_row-Value _ row) ≡ items-the_row-Value _ row) × (some_invalid (items-the_row-Value _ row) ≡ false) × AreTidy row
+  IsTidy (Coll' kind shape row) =
+      (canonical kind (items-the_row-Value _ row) ≡ items-the_row-Value _ row) × (some_invalid (items-the_row-Value _ row) ≡ false) × AreTidy row
 
   pub AreTidy : {m : _} → Row_of-Value m → Type 0
   AreTidy end_of-Value = Unit {0}

@@ -417,6 +417,7 @@ fn plain_values_are_printed(rt: HostRuntime) -> Result<(), Fail> {
         (Bool(true), "true", 1),
         (Bool(false), "false", 1),
         (Int(-120), "-120", 1),
+        (Int(LEAST), "-170141183460469231731687303715884105728", 1),
         (Enum(0, 0), "Grade::junior", 1),
         (Enum(0, 7), "invalid", 1),
         (Obj(1), "ada", 1),
@@ -525,4 +526,6 @@ fn strings_and_collections_are_ordered(rt: HostRuntime) -> Result<(), Fail> {
 fn invalid_equals_nothing(rt: HostRuntime) {
     assert!(rt; same(&Value::Invalid, &Value::Invalid) == Value::Invalid);
     assert!(rt; same(&Value::Null, &Value::Invalid) == Value::Invalid);
+    assert!(rt; Value::Invalid.is_invalid());
+    assert!(rt; !Value::Null.is_invalid());
 }

@@ -61,7 +61,8 @@ module _ {K : Type 0} {cmp : K → K → Ordering} (o : IsTotalOrder cmp) (exact
       ∙ ap₂ (λ a b. a || b) (has_without xs ys z) (has_without ys xs z)
       ∙ odd_is (has cmp xs z) (has cmp ys z)
 
-  up_apart : (w : K) (xs ys : List K) → AllByRecursion (λ v. cmp w v ≡ Less) xs → AllByRecursion (λ v. cmp w v ≡ Less) ys → IsStrictlySortedBy cmp (w ∷ apart cmp xs ys)
+  up_apart : (w : K) (xs ys : List K) → AllByRecursion (λ v. cmp w v ≡ Less) xs → AllByRecursion (λ v. cmp w v ≡ Less) ys
+      → IsStrictlySortedBy cmp (w ∷ apart cmp xs ys)
   unfolding IsStrictlySortedBy
   up_apart w xs ys a b =
       let P : K → Type 0 = λ v. cmp w v ≡ Less in (
@@ -77,7 +78,8 @@ module _ {K : Type 0} {cmp : K → K → Ordering} (o : IsTotalOrder cmp) (exact
   later : (x y : K) (ys : List K) → cmp x y ≡ Less → AllByRecursion (λ w. cmp y w ≡ Less) ys → AllByRecursion (λ w. cmp x w ≡ Less) (y ∷ ys)
   later x y ys l low = (l, all_weaker (λ w. cmp y w ≡ Less) (λ w. cmp x w ≡ Less) (λ w m. o.trans x y w l m) ys low)
 
-  take_first : (x : K) (xs : List K) (y : K) (ys : List K) → IsStrictlySortedBy cmp (x ∷ xs) → IsStrictlySortedBy cmp (y ∷ ys) → cmp x y ≡ Less → x ∷ apart cmp xs (y ∷ ys) ≡ apart cmp (x ∷ xs) (y ∷ ys)
+  take_first : (x : K) (xs : List K) (y : K) (ys : List K) → IsStrictlySortedBy cmp (x ∷ xs) → IsStrictlySortedBy cmp (y ∷ ys) → cmp x y ≡ Less
+      → x ∷ apart cmp xs (y ∷ ys) ≡ apart cmp (x ∷ xs) (y ∷ ys)
   unfolding IsStrictlySortedBy
   take_first x xs y ys up up' l =
       let low = later x y ys l up'.0 in
@@ -87,7 +89,8 @@ module _ {K : Type 0} {cmp : K → K → Ordering} (o : IsTotalOrder cmp) (exact
       ∙ odd_left (is_eq (cmp z x)) (has cmp xs z) (has cmp (y ∷ ys) z) (λ e. absent x z (y ∷ ys) low e)
       ∙ sym (has_apart (x ∷ xs) (y ∷ ys) z))
 
-  take_second : (x : K) (xs : List K) (y : K) (ys : List K) → IsStrictlySortedBy cmp (x ∷ xs) → IsStrictlySortedBy cmp (y ∷ ys) → cmp x y ≡ Greater → y ∷ apart cmp (x ∷ xs) ys ≡ apart cmp (x ∷ xs) (y ∷ ys)
+  take_second : (x : K) (xs : List K) (y : K) (ys : List K) → IsStrictlySortedBy cmp (x ∷ xs) → IsStrictlySortedBy cmp (y ∷ ys) → cmp x y ≡ Greater
+      → y ∷ apart cmp (x ∷ xs) ys ≡ apart cmp (x ∷ xs) (y ∷ ys)
   unfolding IsStrictlySortedBy
   take_second x xs y ys up up' g =
       let low = later y x xs (over o x y g) up.0 in
@@ -97,11 +100,13 @@ module _ {K : Type 0} {cmp : K → K → Ordering} (o : IsTotalOrder cmp) (exact
       ∙ odd_right (is_eq (cmp z y)) (has cmp (x ∷ xs) z) (has cmp ys z) (λ e. absent y z (x ∷ xs) low e)
       ∙ sym (has_apart (x ∷ xs) (y ∷ ys) z))
 
-  pass_both : (x : K) (xs : List K) (y : K) (ys : List K) → IsStrictlySortedBy cmp (x ∷ xs) → IsStrictlySortedBy cmp (y ∷ ys) → cmp x y ≡ Equal → apart cmp xs ys ≡ apart cmp (x ∷ xs) (y ∷ ys)
+  pass_both : (x : K) (xs : List K) (y : K) (ys : List K) → IsStrictlySortedBy cmp (x ∷ xs) → IsStrictlySortedBy cmp (y ∷ ys) → cmp x y ≡ Equal
+      → apart cmp xs ys ≡ apart cmp (x ∷ xs) (y ∷ ys)
   unfolding IsStrictlySortedBy
   pass_both x xs y ys up up' t =
       let low = all_weaker (λ w. cmp y w ≡ Less) (λ w. cmp x w ≡ Less) (λ w m. o.congr x y w t ∙ m) ys up'.0 in
-      is_set o exact (apart cmp xs ys) (without cmp (x ∷ xs) (y ∷ ys) ++ without cmp (y ∷ ys) (x ∷ xs)) (rises-set_of o (without cmp xs ys ++ without cmp ys xs))
+      is_set o exact (apart cmp xs ys) (without cmp (x ∷ xs) (y ∷ ys) ++ without cmp (y ∷ ys) (x ∷ xs))
+      (rises-set_of o (without cmp xs ys ++ without cmp ys xs))
       (λ z.
       has-set_of o (without cmp xs ys ++ without cmp ys xs) z
       ∙ has_apart xs ys z
@@ -116,7 +121,8 @@ module _ {K : Type 0} {cmp : K → K → Ordering} (o : IsTotalOrder cmp) (exact
   second_alone : (ys : List K) → IsStrictlySortedBy cmp ys → ys ≡ apart cmp [] ys
   second_alone ys up = is_set o exact ys (without cmp ys []) up (λ z. sym (has_apart [] ys z))
 
-  module _ (a b : List K) (i j : ℕ) (x y : K) (up : set_of cmp a ≡ a) (up' : set_of cmp b ≡ b) (in_a : i < length a) (in_b : j < length b) (at : x ≡ get_or a i x) (at' : y ≡ get_or b j y) (out out' : List K) where
+  module _ (a b : List K) (i j : ℕ) (x y : K) (up : set_of cmp a ≡ a) (up' : set_of cmp b ≡ b) (in_a : i < length a) (in_b : j < length b)
+      (at : x ≡ get_or a i x) (at' : y ≡ get_or b j y) (out out' : List K) where
     open_a : drop i a ≡ x ∷ drop (i + 1) a
     open_a = opened a i x in_a at
 
@@ -158,7 +164,8 @@ module _ {K : Type 0} {cmp : K → K → Ordering} (o : IsTotalOrder cmp) (exact
   left xs ys up up' (inr e) = ap (λ l. xs ++ l) e ∙ append-nil xs ∙ first_alone xs up ∙ sym (ap (apart cmp xs) e)
 
   -- the rest of the side that is left
-  pub rest_apart : (a b out mid done whole : List K) (i j : ℕ) → set_of cmp a ≡ a → set_of cmp b ≡ b → mid ≡ out ++ drop i a → done ≡ mid ++ drop j b → (length a ≤ i) ⊎ (length b ≤ j)
+  pub rest_apart : (a b out mid done whole : List K) (i j : ℕ) → set_of cmp a ≡ a → set_of cmp b ≡ b → mid ≡ out ++ drop i a → done ≡ mid ++ drop j b
+      → (length a ≤ i) ⊎ (length b ≤ j)
       → out ++ apart cmp (drop i a) (drop j b) ≡ whole → done ≡ whole
   rest_apart a b out mid done whole i j up up' first second ends same =
       let rest = left (drop i a) (drop j b) (strict_drop cmp i a (rises o a up)) (strict_drop cmp j b (rises o b up')) (⊎_elim (λ l. inl (drop_of_length-le a l)) (λ l. inr (drop_of_length-le b l)) ends) in

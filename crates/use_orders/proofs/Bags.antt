@@ -1,5 +1,6 @@
 -- Two lists in order with the same elements are one list.
-use Rattle.std.proofs.Common.{◌≡◌, ℕ, zero, suc, ◌+◌, ◌<◌, Bool, true, false, cond, List, [], ◌∷◌, get_or, refl, sym, ap, ap₂, ◌∙◌, subst, true≢false, arith, IsPermutation, IsSorted, All, Ordering, Less, Equal, Greater, is_lt, is_eq, is_gt}
+use Rattle.std.proofs.Common.{◌≡◌, ℕ, zero, suc, ◌+◌, ◌<◌, Bool, true, false, cond, List, [], ◌∷◌, get_or, refl, sym, ap, ap₂, ◌∙◌, subst, true≢false, arith}
+use Rattle.std.proofs.Common.{IsPermutation, IsSorted, All, Ordering, Less, Equal, Greater, is_lt, is_eq, is_gt}
 use Rattle.std.specs.Ordering.{ordering_reverse}
 use Rattle.std.specs.Cmp.{IsTotalOrder}
 use Rattle.std.specs.List.{AllByRecursion, AllPairs}
@@ -127,7 +128,8 @@ module _ {K : Type 0} (cmp : K → K → Ordering) where
         omega (arith, one, self)
 
     -- a list with an element below all of another has not the same elements
-    apart : (x : K) (xs : List K) (y : K) (ys : List K) → cmp x y ≡ Less → AllByRecursion (λ w. is_gt (cmp y w) ≡ false) ys → times cmp (x ∷ xs) x ≡ times cmp (y ∷ ys) x → ⊥
+    apart : (x : K) (xs : List K) (y : K) (ys : List K) → cmp x y ≡ Less → AllByRecursion (λ w. is_gt (cmp y w) ≡ false) ys
+        → times cmp (x ∷ xs) x ≡ times cmp (y ∷ ys) x → ⊥
     apart x xs y ys l up same =
         let all : AllByRecursion (λ w. cmp x w ≡ Less) (y ∷ ys) = (l, all_weaker (λ w. is_gt (cmp y w) ≡ false) (λ w. cmp x w ≡ Less) (λ w g. under x y w (cmp y w) refl g l) ys up) in
         let none = times_below x (y ∷ ys) all in
@@ -170,7 +172,8 @@ module _ {K : Type 0} (cmp : K → K → Ordering) where
         (λ z. sum_by-IsPermutation (λ y. cond (is_eq (cmp z y)) 1 0) xs ys moved ∙ sym (times-bag_of xs z))
 
     pub bag_bag : IsAntisymmetric cmp → (xs : List K) → bag_of cmp (bag_of cmp xs) ≡ bag_of cmp xs
-    bag_bag exact xs = same_bags exact (bag_of cmp (bag_of cmp xs)) (bag_of cmp xs) (Ascends-bag_of (bag_of cmp xs)) (Ascends-bag_of xs) (times-bag_of (bag_of cmp xs))
+    bag_bag exact xs =
+        same_bags exact (bag_of cmp (bag_of cmp xs)) (bag_of cmp xs) (Ascends-bag_of (bag_of cmp xs)) (Ascends-bag_of xs) (times-bag_of (bag_of cmp xs))
 
     up_pairs : (xs : List K) → Ascends xs → AllPairs (λ a b. is_lt (cmp b a) ≡ false) xs
     unfolding Ascends

@@ -1,9 +1,11 @@
 -- Two lists beside one another.
-use Rattle.std.proofs.Common.{◌≡◌, ℕ, suc, ◌+◌, ◌++◌, ◌⊎◌, inl, inr, List, [], ◌∷◌, length, map, refl, sym, ap, ap₂, ◌∙◌, append_assoc, append-nil, cond, Bool, true, false, Ordering, is_lt, arith}
+use Rattle.std.proofs.Common.{◌≡◌, ℕ, suc, ◌+◌, ◌++◌, ◌⊎◌, inl, inr, List, [], ◌∷◌, length, map, refl, sym, ap, ap₂, ◌∙◌, append_assoc, append-nil, cond}
+use Rattle.std.proofs.Common.{Bool, true, false, Ordering, is_lt, arith}
 use Rattle.std.specs.List.{zip}
 use Rattle.use_orders.specs.Canon.{insert_in, bag_of}
 
-pub zip_next : {K X : Type 0} (all done : List (K × X)) (ks ks' : List K) (vs vs' : List X) (a : K) (b : X) → all ≡ done ++ zip ks vs → ks ≡ a ∷ ks' → vs ≡ b ∷ vs' → all ≡ (done ++ (a, b) ∷ []) ++ zip ks' vs'
+pub zip_next : {K X : Type 0} (all done : List (K × X)) (ks ks' : List K) (vs vs' : List X) (a : K) (b : X) → all ≡ done ++ zip ks vs → ks ≡ a ∷ ks'
+    → vs ≡ b ∷ vs' → all ≡ (done ++ (a, b) ∷ []) ++ zip ks' vs'
 zip_next all done ks ks' vs vs' a b whole ea eb = whole ∙ ap₂ (λ x y. done ++ zip x y) ea eb ∙ sym (append_assoc done ((a, b) ∷ []) (zip ks' vs'))
 
 empty : {X : Type 0} (xs : List X) → length xs ≡ 0 → xs ≡ []
@@ -25,7 +27,8 @@ shorter xs ys x m n e one all =
 
 -- an order of images, on lists of what they are images of
 module _ {A B : Type 0} (f : A → B) (cmp : B → B → Ordering) where
-  either : (t : Bool) (p : List A) (q : List B) (x y : A) (ys : List A) → map f p ≡ q → map f (cond t (y ∷ p) (x ∷ y ∷ ys)) ≡ cond t (f y ∷ q) (f x ∷ f y ∷ map f ys)
+  either : (t : Bool) (p : List A) (q : List B) (x y : A) (ys : List A) → map f p ≡ q
+      → map f (cond t (y ∷ p) (x ∷ y ∷ ys)) ≡ cond t (f y ∷ q) (f x ∷ f y ∷ map f ys)
   either true p q x y ys e = ap (λ l. f y ∷ l) e
   either false p q x y ys e = refl
 
@@ -41,5 +44,6 @@ module _ {A B : Type 0} (f : A → B) (cmp : B → B → Ordering) where
   map_twice g [] = refl
   map_twice g (x ∷ xs) = ap (λ l. g (f x) ∷ l) (map_twice g xs)
 
-  pub bag_images : {C : Type 0} (g : B → C) (xs : List A) (ps : List B) → map f xs ≡ ps → map (λ a. g (f a)) (bag_of (λ a b. cmp (f a) (f b)) xs) ≡ map g (bag_of cmp ps)
+  pub bag_images : {C : Type 0} (g : B → C) (xs : List A) (ps : List B) → map f xs ≡ ps
+      → map (λ a. g (f a)) (bag_of (λ a b. cmp (f a) (f b)) xs) ≡ map g (bag_of cmp ps)
   bag_images g xs ps e = sym (map_twice g (bag_of (λ a b. cmp (f a) (f b)) xs)) ∙ ap (map g) (bag_map xs ∙ ap (bag_of cmp) e)

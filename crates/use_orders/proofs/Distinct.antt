@@ -1,5 +1,6 @@
 -- Lists in which no two elements tie.
-use Rattle.std.proofs.Common.{◌≡◌, ◌||◌, ◌&&◌, ◌++◌, ◌≤◌, ℕ, zero, suc, not, Bool, true, false, cond, List, [], ◌∷◌, take, drop, reverse, refl, sym, ap, ap₂, ◌∙◌, true≢false}
+use Rattle.std.proofs.Common.{◌≡◌, ◌||◌, ◌&&◌, ◌++◌, ◌≤◌, ℕ, zero, suc, not, Bool, true, false, cond, List, [], ◌∷◌, take, drop, reverse, refl, sym, ap, ap₂}
+use Rattle.std.proofs.Common.{◌∙◌, true≢false}
 use Rattle.std.proofs.Common.{Ordering, Less, Equal, Greater, is_eq}
 use mathlib.Core.List.{reverse_aux}
 use Rattle.std.specs.Ordering.{ordering_reverse}
@@ -27,7 +28,8 @@ module _ {X : Type 0} (P : X → Type 0) where
   all_selected [] flags all = tt
   all_selected (x ∷ xs) [] all = tt
   all_selected (x ∷ xs) (flag ∷ flags) all =
-      cond_both flag (x ∷ selected xs flags) (selected xs flags) (AllByRecursion P) (λ _. (all.0, all_selected xs flags all.1)) (λ _. all_selected xs flags all.1)
+      cond_both flag (x ∷ selected xs flags) (selected xs flags) (AllByRecursion P) (λ _. (all.0, all_selected xs flags all.1))
+      (λ _. all_selected xs flags all.1)
 
   pub all_taken : (n : ℕ) (xs : List X) → AllByRecursion P xs → AllByRecursion P (take n xs)
   all_taken zero xs all = tt
@@ -122,9 +124,11 @@ module _ {K : Type 0} (cmp : K → K → Ordering) where
           (all_weaker (λ z. has cmp (seen ++ x ∷ []) z ≡ false) (Unlike x) (λ z e. turned z x (none_of (is_eq (cmp z x)) false (parts z e).1).0) xs rest.0, rest.1),
         )
 
-    both_new : (seen : List K) (x : K) (xs : List K) → AllByRecursion (λ z. has cmp seen z ≡ false) xs → AllByRecursion (Unlike x) xs → AllByRecursion (λ z. has cmp (seen ++ x ∷ []) z ≡ false) xs
+    both_new : (seen : List K) (x : K) (xs : List K) → AllByRecursion (λ z. has cmp seen z ≡ false) xs → AllByRecursion (Unlike x) xs
+        → AllByRecursion (λ z. has cmp (seen ++ x ∷ []) z ≡ false) xs
     both_new seen x [] a b = tt
-    both_new seen x (z ∷ xs) a b = (list_any-append (λ y. is_eq (cmp z y)) seen (x ∷ []) ∙ neither (has cmp seen z) (is_eq (cmp z x)) a.0 (turned x z b.0), both_new seen x xs a.1 b.1)
+    both_new seen x (z ∷ xs) a b =
+        (list_any-append (λ y. is_eq (cmp z y)) seen (x ∷ []) ∙ neither (has cmp seen z) (is_eq (cmp z x)) a.0 (turned x z b.0), both_new seen x xs a.1 b.1)
 
     distinct_new : (seen xs : List K) → AllByRecursion (λ x. has cmp seen x ≡ false) xs → Distinct xs → AreNew cmp seen xs
     unfolding AreNew Distinct
@@ -152,7 +156,8 @@ module _ {K : Type 0} (cmp : K → K → Ordering) where
     pub firsts_reverse : (xs : List K) → firsts_of cmp xs ≡ xs → firsts_of cmp (reverse xs) ≡ reverse xs
     firsts_reverse xs is = firsts_same (reverse xs) (distinct_reverse xs (Distinct-from_firsts xs is))
 
-    pub firsts_inserted : (n : ℕ) (xs : List K) (x : K) → firsts_of cmp xs ≡ xs → has cmp xs x ≡ false → firsts_of cmp (take n xs ++ x ∷ drop n xs) ≡ take n xs ++ x ∷ drop n xs
+    pub firsts_inserted : (n : ℕ) (xs : List K) (x : K) → firsts_of cmp xs ≡ xs → has cmp xs x ≡ false
+        → firsts_of cmp (take n xs ++ x ∷ drop n xs) ≡ take n xs ++ x ∷ drop n xs
     firsts_inserted n xs x is new = firsts_same (take n xs ++ x ∷ drop n xs) (distinct_inserted n xs x (Distinct-from_firsts xs is) (unlike_all x xs new))
 
     -- a list that strictly rises has no ties

@@ -1,5 +1,6 @@
 -- What a binary search says of membership.
-use Rattle.std.proofs.Common.{◌≡◌, ℕ, Bool, false, List, length, get_or, ◌||◌, [], ◌∷◌, refl, sym, ap, ap₂, ◌∙◌, arith, All, Result, Ok, Err, is_ok, IsSorted, Ordering, is_eq, ⊎_elim}
+use Rattle.std.proofs.Common.{◌≡◌, ℕ, Bool, false, List, length, get_or, ◌||◌, [], ◌∷◌, refl, sym, ap, ap₂, ◌∙◌, arith, All, Result, Ok, Err, is_ok, IsSorted}
+use Rattle.std.proofs.Common.{Ordering, is_eq, ⊎_elim}
 use Rattle.std.specs.List.{list_any}
 use Rattle.std.specs.Ordering.{ordering_reverse, eq_by_cmp}
 use Rattle.std.proofs.lemmas.Cmp.{eq_by_cmp_equiv}
@@ -11,7 +12,8 @@ use Rattle.std.proofs.lemmas.List.Sorted.{searchable_from_sorted}
 use Rattle.use_orders.specs.Canon.{has}
 
 module _ {K : Type 0} {cmp : K → K → Ordering} (o : IsTotalOrder cmp) where
-  pub found_is_has : (xs : List K) (x : K) (r : Result ℕ ℕ) → IsSorted cmp xs → IsSearchInRange r (length xs) → IsBinarySearchResult (λ y. cmp y x) xs r → is_ok r ≡ has cmp xs x
+  pub found_is_has : (xs : List K) (x : K) (r : Result ℕ ℕ) → IsSorted cmp xs → IsSearchInRange r (length xs) → IsBinarySearchResult (λ y. cmp y x) xs r
+      → is_ok r ≡ has cmp xs x
   found_is_has xs x (Ok i) up inside at =
       sym (list_any_at (λ y. is_eq (cmp x y)) xs i x inside (ap is_eq (o.antisymm x (get_or xs i x) ∙ ap ordering_reverse (at x))))
   found_is_has xs x (Err i) up inside at =

@@ -1,5 +1,7 @@
 -- A merge of two lists in order that keeps repeats, step by step.
-use Rattle.std.proofs.Common.{◌≡◌, ℕ, ◌+◌, ◌<◌, ◌≤◌, ◌++◌, ◌⊎◌, inl, inr, ⊎_elim, true, false, cond, List, [], ◌∷◌, drop, get_or, length, refl, sym, ap, ap₂, ◌∙◌, subst, arith, append_assoc, append-nil, drop_of_length-le, IsSorted, Ordering, Less, Equal, Greater, is_lt, is_gt, true≢false}
+use Rattle.std.proofs.Common.{◌≡◌, ℕ, ◌+◌, ◌<◌, ◌≤◌, ◌++◌, ◌⊎◌, inl, inr, ⊎_elim, true, false, cond, List, [], ◌∷◌, drop, get_or, length, refl, sym, ap, ap₂}
+use Rattle.std.proofs.Common.{◌∙◌, subst, arith, append_assoc, append-nil, drop_of_length-le, IsSorted, Ordering, Less, Equal, Greater, is_lt, is_gt}
+use Rattle.std.proofs.Common.{true≢false}
 use Rattle.std.specs.Cmp.{IsTotalOrder}
 use Rattle.std.specs.List.{AllByRecursion}
 use Rattle.std.proofs.lemmas.Cmp.{upto}
@@ -32,20 +34,24 @@ module _ {K : Type 0} {cmp : K → K → Ordering} (o : IsTotalOrder cmp) where
   bag_same [] up = refl
   bag_same (x ∷ xs) up = ap (λ l. insert_in cmp l x) (bag_same xs up.1) ∙ first_in x xs (not_lower x xs up.0)
 
-  take_first : (x : K) (xs : List K) (y : K) (ys : List K) → is_gt (cmp x y) ≡ false → Ascends cmp (x ∷ xs) → Ascends cmp (y ∷ ys) → bag_of cmp (x ∷ xs ++ y ∷ ys) ≡ x ∷ bag_of cmp (xs ++ y ∷ ys)
+  take_first : (x : K) (xs : List K) (y : K) (ys : List K) → is_gt (cmp x y) ≡ false → Ascends cmp (x ∷ xs) → Ascends cmp (y ∷ ys)
+      → bag_of cmp (x ∷ xs ++ y ∷ ys) ≡ x ∷ bag_of cmp (xs ++ y ∷ ys)
   unfolding Ascends
   take_first x xs y ys low up up' =
       let later = all_weaker (λ w. is_gt (cmp y w) ≡ false) (λ w. is_gt (cmp x w) ≡ false) (λ w g. upto o x y w low g) ys up'.0 in
-      first_in x (bag_of cmp (xs ++ y ∷ ys)) (all_bag cmp (λ w. is_lt (cmp w x) ≡ false) (xs ++ y ∷ ys) (not_lower x (xs ++ y ∷ ys) (both (λ w. is_gt (cmp x w) ≡ false) xs (y ∷ ys) up.0 (low, later))))
+      first_in x (bag_of cmp (xs ++ y ∷ ys))
+      (all_bag cmp (λ w. is_lt (cmp w x) ≡ false) (xs ++ y ∷ ys) (not_lower x (xs ++ y ∷ ys) (both (λ w. is_gt (cmp x w) ≡ false) xs (y ∷ ys) up.0 (low, later))))
 
-  pass : (y : K) (ys : List K) → Ascends cmp (y ∷ ys) → (xs : List K) → AllByRecursion (λ w. cmp y w ≡ Less) xs → bag_of cmp (xs ++ y ∷ ys) ≡ y ∷ bag_of cmp (xs ++ ys)
+  pass : (y : K) (ys : List K) → Ascends cmp (y ∷ ys) → (xs : List K) → AllByRecursion (λ w. cmp y w ≡ Less) xs
+      → bag_of cmp (xs ++ y ∷ ys) ≡ y ∷ bag_of cmp (xs ++ ys)
   unfolding Ascends
   pass y ys up [] h = first_in y (bag_of cmp ys) (all_bag cmp (λ w. is_lt (cmp w y) ≡ false) ys (not_lower y ys up.0))
   pass y ys up (x ∷ xs) h =
       ap (λ l. insert_in cmp l x) (pass y ys up xs h.1)
       ∙ ap (λ r. cond (is_lt r) (y ∷ insert_in cmp (bag_of cmp (xs ++ ys)) x) (x ∷ y ∷ bag_of cmp (xs ++ ys))) h.0
 
-  module _ (a b : List K) (i j : ℕ) (x y : K) (up : IsSorted cmp a) (up' : IsSorted cmp b) (in_a : i < length a) (in_b : j < length b) (at : x ≡ get_or a i x) (at' : y ≡ get_or b j y) (out out' : List K) where
+  module _ (a b : List K) (i j : ℕ) (x y : K) (up : IsSorted cmp a) (up' : IsSorted cmp b) (in_a : i < length a) (in_b : j < length b) (at : x ≡ get_or a i x)
+      (at' : y ≡ get_or b j y) (out out' : List K) where
     open_a : drop i a ≡ x ∷ drop (i + 1) a
     open_a = opened a i x in_a at
 
@@ -80,7 +86,8 @@ module _ {K : Type 0} {cmp : K → K → Ordering} (o : IsTotalOrder cmp) where
   left xs ys up up' (inr e) = sym (bag_same (xs ++ ys) (subst (λ l. Ascends cmp (xs ++ l)) (sym e) (subst (Ascends cmp) (sym (append-nil xs)) up)))
 
   -- the rest of the side that is left
-  pub joined : (a b out mid done whole : List K) (i j : ℕ) → IsSorted cmp a → IsSorted cmp b → mid ≡ out ++ drop i a → done ≡ mid ++ drop j b → (length a ≤ i) ⊎ (length b ≤ j) → out ++ bag_of cmp (drop i a ++ drop j b) ≡ whole → done ≡ whole
+  pub joined : (a b out mid done whole : List K) (i j : ℕ) → IsSorted cmp a → IsSorted cmp b → mid ≡ out ++ drop i a → done ≡ mid ++ drop j b
+      → (length a ≤ i) ⊎ (length b ≤ j) → out ++ bag_of cmp (drop i a ++ drop j b) ≡ whole → done ≡ whole
   joined a b out mid done whole i j up up' first second ends same =
       let rest = left (drop i a) (drop j b) (Ascends-drop cmp i a (Ascends-from_sort cmp o a up)) (Ascends-drop cmp j b (Ascends-from_sort cmp o b up')) (⊎_elim (λ l. inl (drop_of_length-le a l)) (λ l. inr (drop_of_length-le b l)) ends) in
       second ∙ ap (λ l. l ++ drop j b) first ∙ append_assoc out (drop i a) (drop j b) ∙ ap (λ l. out ++ l) rest ∙ same

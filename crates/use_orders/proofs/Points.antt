@@ -1,5 +1,6 @@
 -- How many elements of a list in order pass a test that only its front passes.
-use Rattle.std.proofs.Common.{◌≡◌, ℕ, zero, suc, ◌+◌, ◌<◌, ◌≤◌, Bool, true, false, cond, List, [], ◌∷◌, length, get_or, count_by, refl, sym, ap, ◌∙◌, arith, IsSorted, Ordering, Less, Equal, Greater, is_lt, is_eq}
+use Rattle.std.proofs.Common.{◌≡◌, ℕ, zero, suc, ◌+◌, ◌<◌, ◌≤◌, Bool, true, false, cond, List, [], ◌∷◌, length, get_or, count_by, refl, sym, ap, ◌∙◌, arith}
+use Rattle.std.proofs.Common.{IsSorted, Ordering, Less, Equal, Greater, is_lt, is_eq}
 use Rattle.std.specs.Ordering.{ordering_reverse, is_le, ordering_index}
 use Rattle.std.specs.Cmp.{IsTotalOrder}
 use Rattle.std.specs.List.Sorted.{IsPartitionedBy, IsPartitionPoint}
@@ -22,7 +23,8 @@ none_counted p (x ∷ xs) h =
     let none : one_if (p x) ≡ 0 = ap one_if (h zero x (omega arith)) in
     omega (arith, one, rest, none)
 
-front_counted : {X : Type 0} (p : X → Bool) (xs : List X) (i : ℕ) → i ≤ length xs → ((k : ℕ) (d : X) → k < i → p (get_or xs k d) ≡ true) → ((k : ℕ) (d : X) → i ≤ k → k < length xs → p (get_or xs k d) ≡ false) → i ≡ count_by p xs
+front_counted : {X : Type 0} (p : X → Bool) (xs : List X) (i : ℕ) → i ≤ length xs → ((k : ℕ) (d : X) → k < i → p (get_or xs k d) ≡ true)
+    → ((k : ℕ) (d : X) → i ≤ k → k < length xs → p (get_or xs k d) ≡ false) → i ≡ count_by p xs
 front_counted p xs zero l in_front behind = sym (none_counted p xs (λ k d h. behind k d (omega arith) h))
 front_counted p [] (suc i) l in_front behind = absurd (omega arith)
 front_counted p (x ∷ xs) (suc i) l in_front behind =
@@ -31,7 +33,8 @@ front_counted p (x ∷ xs) (suc i) l in_front behind =
     let is : one_if (p x) ≡ 1 = ap one_if (in_front zero x (omega arith)) in
     omega (arith, one, rest, is)
 
-pub point_is_count : {X : Type 0} (p : X → Bool) (xs : List X) (i : ℕ) → i ≤ length xs → IsPartitionPoint (λ y. p y ≡ true) (λ y. p y ≡ false) xs i → i ≡ count_by p xs
+pub point_is_count : {X : Type 0} (p : X → Bool) (xs : List X) (i : ℕ) → i ≤ length xs → IsPartitionPoint (λ y. p y ≡ true) (λ y. p y ≡ false) xs i
+    → i ≡ count_by p xs
 point_is_count p xs i l at = front_counted p xs i l (λ k d h. at.0 k d (omega arith) h) (λ k d a b. at.1 k d a b)
 
 not_higher : (a b : Ordering) → ordering_index a ≤ ordering_index b → is_lt b ≡ true → is_lt a ≡ true
@@ -52,10 +55,12 @@ not_over Greater Greater l e = e
 
 module _ {K : Type 0} {cmp : K → K → Ordering} (o : IsTotalOrder cmp) where
   pub low_front : (xs : List K) (x : K) → IsSorted cmp xs → IsPartitionedBy (λ y. is_lt (cmp y x)) xs
-  low_front xs x up i j d between inside e = not_higher (cmp (get_or xs i d) x) (cmp (get_or xs j d) x) (searchable_from_sorted o (λ a. a) xs x up i j d between inside) e
+  low_front xs x up i j d between inside e =
+      not_higher (cmp (get_or xs i d) x) (cmp (get_or xs j d) x) (searchable_from_sorted o (λ a. a) xs x up i j d between inside) e
 
   pub high_front : (xs : List K) (x : K) → IsSorted cmp xs → IsPartitionedBy (λ y. is_le (cmp y x)) xs
-  high_front xs x up i j d between inside e = not_over (cmp (get_or xs i d) x) (cmp (get_or xs j d) x) (searchable_from_sorted o (λ a. a) xs x up i j d between inside) e
+  high_front xs x up i j d between inside e =
+      not_over (cmp (get_or xs i d) x) (cmp (get_or xs j d) x) (searchable_from_sorted o (λ a. a) xs x up i j d between inside) e
 
   sides : (r : Ordering) → one_if (is_le r) ≡ one_if (is_lt r) + one_if (is_eq (ordering_reverse r))
   sides Less = refl

@@ -1,5 +1,6 @@
 -- What a set of references to the elements so far answers.
-use Rattle.std.proofs.Common.{◌≡◌, ◌||◌, ◌&&◌, ◌++◌, ◌+◌, ◌<◌, ℕ, not, Bool, true, false, List, [], ◌∷◌, take, drop, get_or, length, refl, sym, ap, ap₂, ◌∙◌, ⊎_elim, true≢false}
+use Rattle.std.proofs.Common.{◌≡◌, ◌||◌, ◌&&◌, ◌++◌, ◌+◌, ◌<◌, ℕ, not, Bool, true, false, List, [], ◌∷◌, take, drop, get_or, length, refl, sym, ap, ap₂, ◌∙◌}
+use Rattle.std.proofs.Common.{⊎_elim, true≢false}
 use Rattle.std.proofs.Common.{Ordering, is_eq}
 use Rattle.std.specs.Cmp.{IsTotalOrder}
 use Rattle.std.proofs.Math.Bool.{and-false}
@@ -23,15 +24,21 @@ module _ {K : Type 0} (cmp : K → K → Ordering) where
       (and_cases (not (has cmp xs x)) (all_differ cmp xs) e)
 
   module _ (o : IsTotalOrder cmp) where
-    next_differs : (xs : List K) (i : ℕ) (x : K) → i < length xs → x ≡ get_or xs i x → all_differ cmp (take (i + 1) xs) ≡ (all_differ cmp (take i xs) && not (has cmp (take i xs) x))
-    next_differs xs i x l at = ap (all_differ cmp) (take_more xs i x l) ∙ push_differs cmp o (take i xs) (get_or xs i x) ∙ ap (λ v. all_differ cmp (take i xs) && not (has cmp (take i xs) v)) (sym at)
+    next_differs : (xs : List K) (i : ℕ) (x : K) → i < length xs → x ≡ get_or xs i x
+        → all_differ cmp (take (i + 1) xs) ≡ (all_differ cmp (take i xs) && not (has cmp (take i xs) x))
+    next_differs xs i x l at =
+        ap (all_differ cmp) (take_more xs i x l)
+        ∙ push_differs cmp o (take i xs) (get_or xs i x)
+        ∙ ap (λ v. all_differ cmp (take i xs) && not (has cmp (take i xs) v)) (sym at)
 
     -- one element more that is new
-    pub still_differ : (xs : List K) (i : ℕ) (x : K) → i < length xs → x ≡ get_or xs i x → all_differ cmp (take i xs) ≡ true → not (has cmp (take i xs) x) ≡ true → all_differ cmp (take (i + 1) xs) ≡ true
+    pub still_differ : (xs : List K) (i : ℕ) (x : K) → i < length xs → x ≡ get_or xs i x → all_differ cmp (take i xs) ≡ true
+        → not (has cmp (take i xs) x) ≡ true → all_differ cmp (take (i + 1) xs) ≡ true
     still_differ xs i x l at so_far new = next_differs xs i x l at ∙ ap₂ (λ a b. a && b) so_far new
 
     -- an element that was there
     pub tie_found : (xs : List K) (i : ℕ) (x : K) → i < length xs → x ≡ get_or xs i x → not (has cmp (take i xs) x) ≡ false → all_differ cmp xs ≡ false
     tie_found xs i x l at old =
         sym (ap (all_differ cmp) (take-append-drop (i + 1) xs))
-        ∙ differ_prefix (take (i + 1) xs) (drop (i + 1) xs) (next_differs xs i x l at ∙ ap (λ b. all_differ cmp (take i xs) && b) old ∙ and-false (all_differ cmp (take i xs)))
+        ∙ differ_prefix (take (i + 1) xs) (drop (i + 1) xs)
+        (next_differs xs i x l at ∙ ap (λ b. all_differ cmp (take i xs) && b) old ∙ and-false (all_differ cmp (take i xs)))

@@ -1,5 +1,6 @@
 -- The elements beside which true stands, step by step, and what they keep.
-use Rattle.std.proofs.Common.{◌≡◌, ◌++◌, ◌+◌, ◌<◌, ℕ, zero, suc, Bool, true, false, cond, List, [], ◌∷◌, take, get_or, length, length-take, length-append, refl, sym, ap, ap₂, ◌∙◌, arith, IsSorted}
+use Rattle.std.proofs.Common.{◌≡◌, ◌++◌, ◌+◌, ◌<◌, ℕ, zero, suc, Bool, true, false, cond, List, [], ◌∷◌, take, get_or, length, length-take, length-append}
+use Rattle.std.proofs.Common.{refl, sym, ap, ap₂, ◌∙◌, arith, IsSorted}
 use Rattle.std.proofs.Common.{Ordering, Less, is_gt}
 use Rattle.std.specs.Cmp.{IsTotalOrder}
 use Rattle.std.specs.FinMap.{IsAntisymmetric}
@@ -45,14 +46,16 @@ module _ {X : Type 0} where
       let n = length_push xs x in
       omega (arith, n, at)
 
-  pub within : (xs : List X) (flags : List Bool) (ys left rest : List X) (x : X) (i : ℕ) → length flags ≡ length xs → xs ≡ ys ++ left → left ≡ x ∷ rest → i ≡ length ys → i < length flags
+  pub within : (xs : List X) (flags : List Bool) (ys left rest : List X) (x : X) (i : ℕ) → length flags ≡ length xs → xs ≡ ys ++ left → left ≡ x ∷ rest
+      → i ≡ length ys → i < length flags
   within xs flags ys left rest x i len whole next at =
       let n = ap length (whole ∙ ap (λ l. ys ++ l) next) ∙ length-append ys (x ∷ rest) in
       let m : length (x ∷ rest) ≡ suc (length rest) = refl in
       omega (arith, n, m, at, len)
 
   -- the same over a slice
-  pub selected_more : (xs : List X) (flags : List Bool) (i : ℕ) (x : X) (flag d : Bool) → i < length xs → length flags ≡ length xs → x ≡ get_or xs i x → flag ≡ get_or flags i d
+  pub selected_more : (xs : List X) (flags : List Bool) (i : ℕ) (x : X) (flag d : Bool) → i < length xs → length flags ≡ length xs → x ≡ get_or xs i x
+      → flag ≡ get_or flags i d
       → selected (take (i + 1) xs) (take (i + 1) flags) ≡ cond flag (selected (take i xs) (take i flags) ++ x ∷ []) (selected (take i xs) (take i flags))
   selected_more xs flags i x flag d l len at is =
       let n = length-take i xs in

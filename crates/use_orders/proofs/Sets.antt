@@ -1,5 +1,6 @@
 -- Two lists in order without repeats and with the same elements are one list.
-use Rattle.std.proofs.Common.{◌≡◌, ◌||◌, Bool, true, false, List, [], ◌∷◌, refl, sym, ap, ap₂, ◌∙◌, true≢false, IsPermutation, IsSorted, Ordering, Less, Equal, Greater, is_eq}
+use Rattle.std.proofs.Common.{◌≡◌, ◌||◌, Bool, true, false, List, [], ◌∷◌, refl, sym, ap, ap₂, ◌∙◌, true≢false, IsPermutation, IsSorted, Ordering, Less}
+use Rattle.std.proofs.Common.{Equal, Greater, is_eq}
 use Rattle.std.specs.Ordering.{ordering_reverse, match_ordering, eq_by_cmp}
 use Rattle.std.specs.Cmp.{IsTotalOrder}
 use Rattle.std.specs.List.{AllByRecursion, dedup, dedup_from}
@@ -12,7 +13,8 @@ use Rattle.std.specs.FinMap.{IsAntisymmetric}
 use Rattle.use_orders.specs.Canon.{insert_new, set_of, has}
 use Rattle.use_orders.proofs.Bags.{by_rank, all_weaker}
 
-pub match_all : {X : Type 0} (P : X → Type 0) (r : Ordering) (a b c : X) → (r ≡ Less → P a) → (r ≡ Equal → P b) → (r ≡ Greater → P c) → P (match_ordering r a b c)
+pub match_all : {X : Type 0} (P : X → Type 0) (r : Ordering) (a b c : X) → (r ≡ Less → P a) → (r ≡ Equal → P b) → (r ≡ Greater → P c)
+    → P (match_ordering r a b c)
 match_all P Less a b c f g h = f refl
 match_all P Equal a b c f g h = g refl
 match_all P Greater a b c f g h = h refl
@@ -86,16 +88,19 @@ module _ {K : Type 0} {cmp : K → K → Ordering} (o : IsTotalOrder cmp) where
 
   apart : (x : K) (xs : List K) (y : K) (ys : List K) → cmp x y ≡ Less → AllByRecursion (λ w. cmp y w ≡ Less) ys → has cmp (x ∷ xs) x ≡ has cmp (y ∷ ys) x → ⊥
   apart x xs y ys l up same =
-      true≢false (sym (has_self x xs) ∙ same ∙ has_below x (y ∷ ys) (l, all_weaker (λ w. cmp y w ≡ Less) (λ w. cmp x w ≡ Less) (λ w g. o.trans x y w l g) ys up))
+      true≢false
+      (sym (has_self x xs) ∙ same ∙ has_below x (y ∷ ys) (l, all_weaker (λ w. cmp y w ≡ Less) (λ w. cmp x w ≡ Less) (λ w g. o.trans x y w l g) ys up))
 
   -- what the tails have, of two lists that rise from one thing
-  tails : (x y z : K) (xs ys : List K) → cmp x y ≡ Equal → AllByRecursion (λ w. cmp x w ≡ Less) xs → AllByRecursion (λ w. cmp y w ≡ Less) ys → has cmp (x ∷ xs) z ≡ has cmp (y ∷ ys) z → has cmp xs z ≡ has cmp ys z
+  tails : (x y z : K) (xs ys : List K) → cmp x y ≡ Equal → AllByRecursion (λ w. cmp x w ≡ Less) xs → AllByRecursion (λ w. cmp y w ≡ Less) ys
+      → has cmp (x ∷ xs) z ≡ has cmp (y ∷ ys) z → has cmp xs z ≡ has cmp ys z
   tails x y z xs ys e up up' same =
       by_test (is_eq (cmp z x)) (is_eq (cmp z y)) (has cmp xs z) (has cmp ys z) (ap is_eq (alike_right o x y z e)) same
       (λ t. has_below z xs (all_weaker (λ w. cmp x w ≡ Less) (λ w. cmp z w ≡ Less) (λ w l. o.congr z x w (equal (cmp z x) t) ∙ l) xs up))
       (λ t. has_below z ys (all_weaker (λ w. cmp y w ≡ Less) (λ w. cmp z w ≡ Less) (λ w l. o.congr z y w (equal (cmp z y) t) ∙ l) ys up'))
 
-  pub same_sets : IsAntisymmetric cmp → (xs ys : List K) → IsStrictlySortedBy cmp xs → IsStrictlySortedBy cmp ys → ((z : K) → has cmp xs z ≡ has cmp ys z) → xs ≡ ys
+  pub same_sets : IsAntisymmetric cmp → (xs ys : List K) → IsStrictlySortedBy cmp xs → IsStrictlySortedBy cmp ys → ((z : K) → has cmp xs z ≡ has cmp ys z)
+      → xs ≡ ys
   unfolding IsStrictlySortedBy
   same_sets exact [] [] up up' same = refl
   same_sets exact [] (y ∷ ys) up up' same = absurd (true≢false (sym (has_self y ys) ∙ sym (same y)))

@@ -1,5 +1,6 @@
 -- What two lists in order share, step by step.
-use Rattle.std.proofs.Common.{◌≡◌, subst, ◌||◌, ◌++◌, ◌+◌, ◌<◌, ◌⊎◌, inl, inr, ℕ, zero, suc, false, cond, List, [], ◌∷◌, drop, get_or, length, refl, sym, ap, ap₂, ◌∙◌, IsSorted, Ordering, Less, Equal, Greater, is_eq, is_gt, arith, drop-cons, append_assoc}
+use Rattle.std.proofs.Common.{◌≡◌, subst, ◌||◌, ◌++◌, ◌+◌, ◌<◌, ◌⊎◌, inl, inr, ℕ, zero, suc, false, cond, List, [], ◌∷◌, drop, get_or, length, refl, sym, ap}
+use Rattle.std.proofs.Common.{ap₂, ◌∙◌, IsSorted, Ordering, Less, Equal, Greater, is_eq, is_gt, arith, drop-cons, append_assoc}
 use Rattle.std.specs.Ordering.{ordering_reverse}
 use Rattle.std.specs.Cmp.{IsTotalOrder}
 use Rattle.std.specs.List.{AllByRecursion}
@@ -33,11 +34,14 @@ module _ {K : Type 0} (cmp : K → K → Ordering) where
     unfolding Ascends
     above x y ys l up = (l, all_weaker (λ w. is_gt (cmp y w) ≡ false) (λ w. cmp x w ≡ Less) (λ w g. under cmp o x y w (cmp y w) refl g l) ys up.0)
 
-    pass_first : (x : K) (xs : List K) (y : K) (ys : List K) → cmp x y ≡ Less → Ascends cmp (y ∷ ys) → common_of cmp (x ∷ xs) (y ∷ ys) ≡ common_of cmp xs (y ∷ ys)
-    pass_first x xs y ys l up = ap (λ b. cond b (x ∷ common_of cmp xs (without_one cmp (y ∷ ys) x)) (common_of cmp xs (y ∷ ys))) (has_below o x (y ∷ ys) (above x y ys l up))
+    pass_first : (x : K) (xs : List K) (y : K) (ys : List K) → cmp x y ≡ Less → Ascends cmp (y ∷ ys)
+        → common_of cmp (x ∷ xs) (y ∷ ys) ≡ common_of cmp xs (y ∷ ys)
+    pass_first x xs y ys l up =
+        ap (λ b. cond b (x ∷ common_of cmp xs (without_one cmp (y ∷ ys) x)) (common_of cmp xs (y ∷ ys))) (has_below o x (y ∷ ys) (above x y ys l up))
 
     take_both : (x : K) (xs : List K) (y : K) (ys : List K) → cmp x y ≡ Equal → common_of cmp (x ∷ xs) (y ∷ ys) ≡ x ∷ common_of cmp xs ys
-    take_both x xs y ys e = ap (λ r. cond (is_eq r || has cmp ys x) (x ∷ common_of cmp xs (cond (is_eq r) ys (y ∷ without_one cmp ys x))) (common_of cmp xs (y ∷ ys))) e
+    take_both x xs y ys e =
+        ap (λ r. cond (is_eq r || has cmp ys x) (x ∷ common_of cmp xs (cond (is_eq r) ys (y ∷ without_one cmp ys x))) (common_of cmp xs (y ∷ ys))) e
 
     -- what is below all of a list is not shared
     skip : (y : K) (zs : List K) → AllByRecursion (λ w. cmp y w ≡ Less) zs → (ys : List K) → common_of cmp zs (y ∷ ys) ≡ common_of cmp zs ys
@@ -47,10 +51,12 @@ module _ {K : Type 0} (cmp : K → K → Ordering) where
         ap (λ r. cond (is_eq r || has cmp ys w) (w ∷ common_of cmp zs (cond (is_eq r) ys (y ∷ without_one cmp ys w))) (common_of cmp zs (y ∷ ys))) apart
         ∙ ap₂ (λ p q. cond (has cmp ys w) (w ∷ p) q) (skip y zs h.1 (without_one cmp ys w)) (skip y zs h.1 ys)
 
-    pass_second : (x : K) (xs : List K) (y : K) (ys : List K) → cmp x y ≡ Greater → Ascends cmp (x ∷ xs) → common_of cmp (x ∷ xs) (y ∷ ys) ≡ common_of cmp (x ∷ xs) ys
+    pass_second : (x : K) (xs : List K) (y : K) (ys : List K) → cmp x y ≡ Greater → Ascends cmp (x ∷ xs)
+        → common_of cmp (x ∷ xs) (y ∷ ys) ≡ common_of cmp (x ∷ xs) ys
     pass_second x xs y ys g up = skip y (x ∷ xs) (above y x xs (turned cmp o x y g) up) ys
 
-    module _ (a b : List K) (i j : ℕ) (x y : K) (up : IsSorted cmp a) (up' : IsSorted cmp b) (in_a : i < length a) (in_b : j < length b) (at : x ≡ get_or a i x) (at' : y ≡ get_or b j y) (out : List K) where
+    module _ (a b : List K) (i j : ℕ) (x y : K) (up : IsSorted cmp a) (up' : IsSorted cmp b) (in_a : i < length a) (in_b : j < length b) (at : x ≡ get_or a i x)
+        (at' : y ≡ get_or b j y) (out : List K) where
       open_a : drop i a ≡ x ∷ drop (i + 1) a
       open_a = opened a i x in_a at
 
@@ -77,7 +83,10 @@ module _ {K : Type 0} (cmp : K → K → Ordering) where
       both_taken e out' put =
           let is = ap₂ (common_of cmp) open_a open_b ∙ take_both x (drop (i + 1) a) y (drop (j + 1) b) e in
           record {
-            same = ap (λ l. l ++ common_of cmp (drop (i + 1) a) (drop (j + 1) b)) put ∙ append_assoc out (x ∷ []) (common_of cmp (drop (i + 1) a) (drop (j + 1) b)) ∙ ap (λ l. out ++ l) (sym is);
+            same =
+                ap (λ l. l ++ common_of cmp (drop (i + 1) a) (drop (j + 1) b)) put
+                ∙ append_assoc out (x ∷ []) (common_of cmp (drop (i + 1) a) (drop (j + 1) b))
+                ∙ ap (λ l. out ++ l) (sym is);
             further = omega arith;
             in_a = omega arith;
             in_b = omega arith;

@@ -1,5 +1,6 @@
--- A list in which each element is replaced by a list: what the first list repeats, or in which order it stands, makes no difference to the result's set, bag or first elements.
-use Rattle.std.proofs.Common.{◌≡◌, ◌||◌, ◌++◌, ◌+◌, Bool, true, false, cond, fold, List, [], ◌∷◌, refl, sym, ap, ap₂, ◌∙◌, subst, arith, append-nil, append_assoc, true≢false}
+-- Each element of a list replaced by a list: what the first list repeats, or in which order it stands, changes no set, bag or first elements of the result.
+use Rattle.std.proofs.Common.{◌≡◌, ◌||◌, ◌++◌, ◌+◌, Bool, true, false, cond, fold, List, [], ◌∷◌, refl, sym, ap, ap₂, ◌∙◌, subst, arith, append-nil}
+use Rattle.std.proofs.Common.{append_assoc, true≢false}
 use Rattle.std.proofs.Common.{Ordering, Equal, is_eq, is_lt}
 use Rattle.std.specs.Cmp.{IsTotalOrder}
 use Rattle.std.specs.FinMap.{IsAntisymmetric}
@@ -64,7 +65,8 @@ module _ {K : Type 0} {cmp : K → K → Ordering} (o : IsTotalOrder cmp) (exact
 
   pub bag_flat : (xs : List K) → bag_of cmp (flat (bag_of cmp xs)) ≡ bag_of cmp (flat xs)
   bag_flat xs =
-      same_bags cmp o exact (bag_of cmp (flat (bag_of cmp xs))) (bag_of cmp (flat xs)) (Ascends-bag_of cmp o (flat (bag_of cmp xs))) (Ascends-bag_of cmp o (flat xs))
+      same_bags cmp o exact (bag_of cmp (flat (bag_of cmp xs))) (bag_of cmp (flat xs)) (Ascends-bag_of cmp o (flat (bag_of cmp xs)))
+      (Ascends-bag_of cmp o (flat xs))
       (λ z. times-bag_of cmp (flat (bag_of cmp xs)) z ∙ times_flat xs z ∙ sym (times-bag_of cmp (flat xs) z))
 
   -- sets

@@ -1,5 +1,6 @@
 -- A stable sort has one answer.
-use Rattle.std.proofs.Common.{◌≡◌, ◌&&◌, not, Bool, true, false, cond, List, [], ◌∷◌, filter, refl, sym, ap, ap₂, ◌∙◌, true≢false, IsSorted, Ordering, Less, Equal, Greater, is_lt, is_eq, is_gt}
+use Rattle.std.proofs.Common.{◌≡◌, ◌&&◌, not, Bool, true, false, cond, List, [], ◌∷◌, filter, refl, sym, ap, ap₂, ◌∙◌, true≢false, IsSorted, Ordering, Less}
+use Rattle.std.proofs.Common.{Equal, Greater, is_lt, is_eq, is_gt}
 use Rattle.std.specs.Ordering.{ordering_reverse}
 use Rattle.std.specs.Cmp.{IsTotalOrder}
 use Rattle.std.specs.List.{AllByRecursion}
@@ -34,7 +35,8 @@ cancel true false x y p q e same = absurd (true≢false e)
 cancel false true x y p q e same = absurd (true≢false (sym e))
 cancel false false x y p q e same = same
 
-trade : {K : Type 0} (a b : Bool) (x y : K) (p : List K) → (a ≡ true → b ≡ true → ⊥) → cond b (y ∷ cond a (x ∷ p) p) (cond a (x ∷ p) p) ≡ cond a (x ∷ cond b (y ∷ p) p) (cond b (y ∷ p) p)
+trade : {K : Type 0} (a b : Bool) (x y : K) (p : List K) → (a ≡ true → b ≡ true → ⊥)
+    → cond b (y ∷ cond a (x ∷ p) p) (cond a (x ∷ p) p) ≡ cond a (x ∷ cond b (y ∷ p) p) (cond b (y ∷ p) p)
 trade true true x y p never = absurd (never refl refl)
 trade true false x y p never = refl
 trade false true x y p never = refl
@@ -51,7 +53,8 @@ module _ {K : Type 0} {cmp : K → K → Ordering} (o : IsTotalOrder cmp) where
   own_alike : (x : K) (xs : List K) → alike x (x ∷ xs) ≡ x ∷ alike x xs
   own_alike x xs = ap (λ r. cond (is_eq r) (x ∷ alike x xs) (alike x xs)) (tied_itself o x)
 
-  apart : (x : K) (xs : List K) (y : K) (ys : List K) → cmp x y ≡ Less → AllByRecursion (λ w. is_gt (cmp y w) ≡ false) ys → alike x (x ∷ xs) ≡ alike x (y ∷ ys) → ⊥
+  apart : (x : K) (xs : List K) (y : K) (ys : List K) → cmp x y ≡ Less → AllByRecursion (λ w. is_gt (cmp y w) ≡ false) ys → alike x (x ∷ xs) ≡ alike x (y ∷ ys)
+      → ⊥
   apart x xs y ys l up same =
       let all : AllByRecursion (λ w. cmp x w ≡ Less) (y ∷ ys) = (l, all_weaker (λ w. is_gt (cmp y w) ≡ false) (λ w. cmp x w ≡ Less) (λ w g. under cmp o x y w (cmp y w) refl g l) ys up) in
       true≢false (sym (ap is_empty (sym (own_alike x xs) ∙ same ∙ none_alike x (y ∷ ys) all)))
@@ -74,7 +77,8 @@ module _ {K : Type 0} {cmp : K → K → Ordering} (o : IsTotalOrder cmp) where
   alike-insert_in (y ∷ ys) x z =
       cond_both (is_lt (cmp y x)) (y ∷ insert_in cmp ys x) (x ∷ y ∷ ys) (λ l. alike z l ≡ cond (is_eq (cmp z x)) (x ∷ alike z (y ∷ ys)) (alike z (y ∷ ys)))
       (λ l. ap (λ p. cond (is_eq (cmp z y)) (y ∷ p) p) (alike-insert_in ys x z)
-      ∙ trade (is_eq (cmp z x)) (is_eq (cmp z y)) x y (alike z ys) (λ a b. true≢false (sym l ∙ ap is_lt (sym (o.congr z y x (equal (cmp z y) b)) ∙ equal (cmp z x) a))))
+      ∙ trade (is_eq (cmp z x)) (is_eq (cmp z y)) x y (alike z ys)
+      (λ a b. true≢false (sym l ∙ ap is_lt (sym (o.congr z y x (equal (cmp z y) b)) ∙ equal (cmp z x) a))))
       (λ _. refl)
 
   alike-bag_of : (xs : List K) (z : K) → alike z (bag_of cmp xs) ≡ alike z xs

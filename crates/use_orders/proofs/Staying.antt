@@ -1,5 +1,6 @@
 -- What stays as its kind keeps it when elements go.
-use Rattle.std.proofs.Common.{◌≡◌, ◌+◌, ◌≤◌, ◌++◌, ◌||◌, ◌&&◌, Bool, true, false, cond, fold, filter, List, [], ◌∷◌, length, refl, sym, ap, ap₂, ◌∙◌, true≢false, arith, append_assoc, append-nil, length-append, IsSorted, Ordering, is_eq, is_gt}
+use Rattle.std.proofs.Common.{◌≡◌, ◌+◌, ◌≤◌, ◌++◌, ◌||◌, ◌&&◌, Bool, true, false, cond, fold, filter, List, [], ◌∷◌, length, refl, sym, ap, ap₂, ◌∙◌}
+use Rattle.std.proofs.Common.{true≢false, arith, append_assoc, append-nil, length-append, IsSorted, Ordering, is_eq, is_gt}
 use Rattle.std.specs.Cmp.{IsTotalOrder}
 use Rattle.std.specs.List.{AllByRecursion}
 use Rattle.std.specs.FinMap.{IsAntisymmetric}
@@ -25,7 +26,8 @@ and_swap false false = refl
 module _ {X : Type 0} (P : X → Type 0) where
   pub all_filter : (p : X → Bool) (xs : List X) → AllByRecursion P xs → AllByRecursion P (filter p xs)
   all_filter p [] all = tt
-  all_filter p (x ∷ xs) all = cond_both (p x) (x ∷ filter p xs) (filter p xs) (AllByRecursion P) (λ _. (all.0, all_filter p xs all.1)) (λ _. all_filter p xs all.1)
+  all_filter p (x ∷ xs) all =
+      cond_both (p x) (x ∷ filter p xs) (filter p xs) (AllByRecursion P) (λ _. (all.0, all_filter p xs all.1)) (λ _. all_filter p xs all.1)
 
 module _ {K : Type 0} (cmp : K → K → Ordering) where
   pub all_common : (P : K → Type 0) (xs ys : List K) → AllByRecursion P xs → AllByRecursion P (common_of cmp xs ys)
@@ -69,7 +71,8 @@ module _ {K : Type 0} (cmp : K → K → Ordering) where
       absurd (omega (arith, short, whole)))
       (λ e. (e, new_kept (seen ++ x ∷ []) xs (sym (ap (λ b. fold (add_new cmp) (cond b seen (seen ++ x ∷ [])) xs) e) ∙ same ∙ sym (append_assoc seen (x ∷ []) xs))))
 
-  new_filter : (p : K → Bool) (seen fewer xs : List K) → ((z : K) → has cmp seen z ≡ false → has cmp fewer z ≡ false) → AreNew seen xs → AreNew fewer (filter p xs)
+  new_filter : (p : K → Bool) (seen fewer xs : List K) → ((z : K) → has cmp seen z ≡ false → has cmp fewer z ≡ false) → AreNew seen xs
+      → AreNew fewer (filter p xs)
   unfolding AreNew
   new_filter p seen fewer [] sub new = tt
   new_filter p seen fewer (x ∷ xs) sub new =

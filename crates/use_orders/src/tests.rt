@@ -36,7 +36,7 @@ enum ListCall {
     KeepFirst,
     Copied,
     AppendCopies,
-    WithBehind,
+    InsertAt,
 }
 
 fn of_list(alloc: Global, call: ListCall, text: &str) -> Result<Vec<u8>, AllocError> {
@@ -51,7 +51,7 @@ fn of_list(alloc: Global, call: ListCall, text: &str) -> Result<Vec<u8>, AllocEr
             append_copies(alloc, items.as_slice(), items.len().min(1), &mut out)?;
             Ok(out)
         }
-        ListCall::WithBehind => insert_at(alloc, items.as_slice(), items.len().min(1), &b'9'),
+        ListCall::InsertAt => insert_at(alloc, items.as_slice(), items.len().min(1), &b'9'),
     }
 }
 
@@ -64,7 +64,7 @@ fn whole_lists(rt: HostRuntime) -> Result<(), Fail> {
         (ListCall::KeepFirst, "3121", "312"),
         (ListCall::Copied, "3121", "3121"),
         (ListCall::AppendCopies, "3121", "0121"),
-        (ListCall::WithBehind, "3121", "39121"),
+        (ListCall::InsertAt, "3121", "39121"),
         (ListCall::Bag, "", ""),
         (ListCall::Set, "", ""),
         (ListCall::KeepFirst, "", ""),
@@ -183,5 +183,56 @@ fn items_of_one_key_stay_in_order(rt: HostRuntime) -> Result<(), Fail> {
     let keys = copied(alloc, b"3121")?;
     let found = sort_by_keys(alloc, items, keys)?;
     assert_eq!(rt; found.as_slice(), "bdca".as_bytes());
+    Ok(())
+}
+
+// Whether all of some bytes are in a text, none is, and no two bytes of the text are equal.
+fn answers(alloc: Global, text: &str, others: &str) -> Result<[bool; 3], AllocError> {
+    Ok([
+        contains_all(alloc, text.as_bytes(), others.as_bytes())?,
+        contains_none(alloc, text.as_bytes(), others.as_bytes())?,
+        all_differ(alloc, text.as_bytes())?,
+    ])
+}
+
+#[test]
+fn whole_lists_are_looked_for(rt: HostRuntime) -> Result<(), Fail> {
+    let alloc = rt.alloc();
+    for (text, others, want) in [
+        ("3121", "13", [true, false, false]),
+        ("3121", "14", [false, false, false]),
+        ("321", "45", [false, true, true]),
+        ("321", "", [true, true, true]),
+        ("", "3", [false, true, true]),
+        ("321", "33", [true, false, true]),
+    ] {
+        assert_eq!(rt; answers(alloc, text, others)?, want);
+    }
+    Ok(())
+}
+
+// A selection by copies, and then by moves.
+fn selected(alloc: Global, text: &str, flags: &[bool]) -> Result<Vec<u8>, AllocError> {
+    let items = copied(alloc, text.as_bytes())?;
+    if items.len() != flags.len() {
+        return Ok(items);
+    }
+    let mut both = copy_selected(alloc, items.as_slice(), flags)?;
+    both.push(b' ')?;
+    both.extend_from_slice(select(alloc, items, flags)?.as_slice())?;
+    Ok(both)
+}
+
+#[test]
+fn selections_keep_their_order(rt: HostRuntime) -> Result<(), Fail> {
+    let alloc = rt.alloc();
+    for (flags, want) in [
+        ([true, false, true, true], "321 321"),
+        ([false, false, false, false], " "),
+        ([true, true, true, true], "3121 3121"),
+    ] {
+        let found = selected(alloc, "3121", flags.as_slice())?;
+        assert_eq!(rt; found.as_slice(), want.as_bytes());
+    }
     Ok(())
 }

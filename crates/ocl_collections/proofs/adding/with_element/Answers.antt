@@ -18,4 +18,6 @@ insert-requires-clause-sorted c = bag_up c.args.kind c.args.items.now c.requires
 pub returns-in-OrderedSet : goal.returns-in-OrderedSet
 returns-in-OrderedSet c =
     let kept = subst (λ k. canonical k c.args.items.now ≡ c.args.items.now) c.in-OrderedSet.is (kept_of c.args.kind c.args.items.now c.requires) in
-    subst (λ l. IfOk c.appended_once.result (λ v. v.items ≡ l)) (firsts_push value_cmp c.args.items.now c.args.x.now kept ∙ sym (ap (λ k. canonical k (c.args.items.now ++ c.args.x.now ∷ [])) c.in-OrderedSet.is)) c.appended_once.ensures
+    subst (λ l. IfOk c.appended_once.result (λ v. v.items ≡ l))
+    (firsts_push value_cmp c.args.items.now c.args.x.now kept ∙ sym (ap (λ k. canonical k (c.args.items.now ++ c.args.x.now ∷ [])) c.in-OrderedSet.is))
+    c.appended_once.ensures

@@ -10,4 +10,5 @@ flatten-requires c = each_well c.args.kind c.args.items.items c.requires
 pub returns-in-Flatten : goal.returns-in-Flatten
 returns-in-Flatten c =
     subst (λ w. IfOk c.flatten.result (λ v. v ≡ w))
-    (as_operation c.args.kind c.args.items.items c.requires ∙ sym (ap (λ op. of_none op c.args.kind c.args.items.items) c.in-Flatten.is)) c.flatten.ensures.value
+    (as_operation c.args.kind c.args.items.items c.requires ∙ sym (ap (λ op. of_none op c.args.kind c.args.items.items) c.in-Flatten.is))
+    c.flatten.ensures.value

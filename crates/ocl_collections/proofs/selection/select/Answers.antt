@@ -7,4 +7,5 @@ pub returns-clause-value : goal.returns-clause-value
 returns-clause-value c = c.collection.ensures ∙ selection_is c.args.kind c.args.items.items _ c.args.flags.now c.requires.source c.in_ok-select.ensures
 
 pub returns-clause-well_made : goal.returns-clause-well_made
-returns-clause-well_made c = subst IsWellMade (sym c.collection.ensures) (selection_well c.args.kind c.args.items.items _ c.args.flags.now c.requires.source c.in_ok-select.ensures)
+returns-clause-well_made c =
+    subst IsWellMade (sym c.collection.ensures) (selection_well c.args.kind c.args.items.items _ c.args.flags.now c.requires.source c.in_ok-select.ensures)

@@ -14,5 +14,7 @@ without-requires c = record { sorted = set_up c.args.other c.args.others.now c.r
 
 pub returns-in_ok-without-in-Set-Set : goal.returns-in_ok-without-in-Set-Set
 returns-in_ok-without-in-Set-Set c =
-    c.collection.ensures ∙ some_of Set (λ y. not (has value_cmp c.args.others.now y)) c.args.items.now _ (subst (λ k. IsWellMade (Coll k c.args.items.now)) c.in-Set-Set.is-0 c.requires.first) c.in_ok-without-in-Set-Set.ensures
+    c.collection.ensures
+    ∙ some_of Set (λ y. not (has value_cmp c.args.others.now y)) c.args.items.now _
+    (subst (λ k. IsWellMade (Coll k c.args.items.now)) c.in-Set-Set.is-0 c.requires.first) c.in_ok-without-in-Set-Set.ensures
     ∙ sym (ap₂ (λ k o. difference k c.args.items.now o c.args.others.now) c.in-Set-Set.is-0 c.in-Set-Set.is-1)

@@ -12,5 +12,6 @@ symmetric-requires-clause-exact c = value_exact
 pub returns-in_ok-symmetric-in-Set-Set : goal.returns-in_ok-symmetric-in-Set-Set
 returns-in_ok-symmetric-in-Set-Set c =
     c.collection.ensures
-    ∙ apart c.args.items.now c.args.others.now _ (subst (λ k. IsWellMade (Coll k c.args.items.now)) c.in-Set-Set.is-0 c.requires.first) (subst (λ k. IsWellMade (Coll k c.args.others.now)) c.in-Set-Set.is-1 c.requires.second) c.in_ok-symmetric-in-Set-Set.ensures
+    ∙ apart c.args.items.now c.args.others.now _ (subst (λ k. IsWellMade (Coll k c.args.items.now)) c.in-Set-Set.is-0 c.requires.first)
+    (subst (λ k. IsWellMade (Coll k c.args.others.now)) c.in-Set-Set.is-1 c.requires.second) c.in_ok-symmetric-in-Set-Set.ensures
     ∙ sym (ap₂ (λ k o. symmetric_difference k c.args.items.now o c.args.others.now) c.in-Set-Set.is-0 c.in-Set-Set.is-1)

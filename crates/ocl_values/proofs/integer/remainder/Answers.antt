@@ -1,4 +1,5 @@
-use Rattle.std.proofs.Common.{◌≡◌, ◌-ℤ◌, ◌*ℤ◌, ◌+ℤ◌, ◌<◌, ◌≤◌, ℤ, pos, negsuc, zero, suc, true, int_div, int_rem, unsigned_abs, if◌then◌else◌, ◌^◌, ap, refl, sym, ◌∙◌, arith, rules}
+use Rattle.std.proofs.Common.{◌≡◌, ◌-ℤ◌, ◌*ℤ◌, ◌+ℤ◌, ◌<◌, ◌≤◌, ℤ, pos, negsuc, zero, suc, true, int_div, int_rem, unsigned_abs, if◌then◌else◌, ◌^◌, ap, refl}
+use Rattle.std.proofs.Common.{sym, ◌∙◌, arith, rules}
 use Rattle.std.proofs.lemmas.Int.{quot-rem, rem_below, ints}
 use Rattle.std.proofs.lemmas.Bool.Decides.{nat_tests}
 use Rattle.ocl_values.specs.Integers.{in_range, int_value, remainder}

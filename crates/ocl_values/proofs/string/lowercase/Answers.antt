@@ -5,4 +5,6 @@ use Rattle.ocl_values.proofs.CharacterLists.{lowercase_chars}
 use Rattle.ocl_values.proofs.string.lowercase.Goals as goal
 
 pub returns : goal.returns
-returns c = ap Str (c.from_string.ensures ∙ c.make_ascii_lowercase.ensures.bytes ∙ ap (map to_ascii_lowercase) c.in_ok-text.ensures.ok ∙ sym (lowercase_chars c.args.s.now c.utf8.s))
+returns c =
+    ap Str
+    (c.from_string.ensures ∙ c.make_ascii_lowercase.ensures.bytes ∙ ap (map to_ascii_lowercase) c.in_ok-text.ensures.ok ∙ sym (lowercase_chars c.args.s.now c.utf8.s))

@@ -10,5 +10,8 @@ keep-preserved g c =
     record {
       at = at_more g.met.T.Ord.total c.keep.yielded c.in-Some.x c.keep.i c.keep.invariant.at;
       whole = c.keep.invariant.whole ∙ ap (λ l. c.keep.yielded ++ l) next.0 ∙ sym (append_assoc c.keep.yielded (c.in-Some.x ∷ []) _);
-      out = kept_more g.met.T.Ord.total c.args.items.items c.keep.yielded _ _ c.in-Some.x c.keep.i c.in_ok-places.places.items c.index.result.now _ _ c.keep.invariant.whole next.0 c.keep.invariant.at (c.in_ok-places.ensures.len ∙ ap length c.as_slice.ensures.value) places c.index.ensures c.keep.invariant.out c.in_ok-keep_one.ensures;
+      out =
+          kept_more g.met.T.Ord.total c.args.items.items c.keep.yielded _ _ c.in-Some.x c.keep.i c.in_ok-places.places.items c.index.result.now _ _
+          c.keep.invariant.whole next.0 c.keep.invariant.at (c.in_ok-places.ensures.len ∙ ap length c.as_slice.ensures.value) places c.index.ensures
+          c.keep.invariant.out c.in_ok-keep_one.ensures;
     }

@@ -26,7 +26,10 @@ pair-preserved g c =
       whole = zip_next _ c.pair.yielded _ _ _ _ c.in-Some.key c.in-Some.item c.pair.invariant.whole step.0.0 step.1.0;
       first = shorter _ _ c.in-Some.key _ _ step.0.0 step.0.1 c.pair.invariant.first;
       second = shorter _ _ c.in-Some.item _ _ step.1.0 step.1.1 c.pair.invariant.second;
-      pairs = ap (map (λ p. (p.key, p.item))) c.in_ok-push.ensures.items ∙ map-append (λ p. (p.key, p.item)) c.pair.pairs.items _ ∙ ap (λ l. l ++ (c.in-Some.key, c.in-Some.item) ∷ []) c.pair.invariant.pairs;
+      pairs =
+          ap (map (λ p. (p.key, p.item))) c.in_ok-push.ensures.items
+          ∙ map-append (λ p. (p.key, p.item)) c.pair.pairs.items _
+          ∙ ap (λ l. l ++ (c.in-Some.key, c.in-Some.item) ∷ []) c.pair.invariant.pairs;
     }
 
 pub returns : goal.returns
