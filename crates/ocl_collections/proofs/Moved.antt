@@ -1,9 +1,8 @@
 -- A collection of the leaves of values.
-use Rattle.std.proofs.Common.{◌≡◌, ◌≤◌, ◌||◌, ◌++◌, ◌<◌, ◌+◌, ◌*◌, ℕ, nat_le, Bool, true, false, cond, List, [], ◌∷◌, refl, sym, ap, ◌∙◌, arith, append_assoc}
+use Rattle.std.proofs.Common.{◌≡◌, ◌≤◌, ◌||◌, ◌++◌, ◌+◌, nat_le, true, false, cond, List, [], ◌∷◌, refl, sym, ap, ◌∙◌, arith, append_assoc}
 use Rattle.std.proofs.Common.{append-nil}
 use Rattle.std.specs.List.{AllByRecursion}
 use Rattle.use_orders.proofs.Spread.{bag_flat, set_flat, firsts_flat}
-use Rattle.ocl_values.specs.Order.{value_cmp}
 use Rattle.ocl_values.specs.Logic.{is_invalid}
 use Rattle.ocl_values.specs.Shape.{size_of, sizes_of, most_levels, canonical, canon, some_invalid, IsTidy, AreTidy, IsWellMade}
 use Rattle.ocl_values.specs.declared.value.Kind.{Kind}
@@ -13,11 +12,10 @@ use Rattle.ocl_values.specs.declared.value.Value.TheVariants as V
 use Rattle.ocl_values.specs.declared.value.Value.TheVariants.{Null, Invalid, Int, Str, Enum, Obj, Coll, Coll'}
 use Rattle.ocl_values.proofs.Elements.{IsPart, neither, parts_of}
 use Rattle.ocl_values.proofs.Exact.{value_exact, value_total}
-use Rattle.ocl_collections.specs.Arguments.{with_collection}
 use Rattle.ocl_collections.specs.Flattening.{leaves, row_leaves, all_leaves, flattened}
 use Rattle.ocl_collections.specs.Operations.{of_collection, coll_op_value}
 use Rattle.ocl_collections.specs.declared.op.CollOp.TheVariants.{Flatten}
-use Rattle.ocl_collections.proofs.Parts.{parts, parts_well, low_from, all_kept, canon_is, canon_same}
+use Rattle.ocl_collections.proofs.Parts.{parts, parts_well, low_from, all_kept, canon_is}
 use Rattle.ocl_collections.proofs.Collected.{both, of_parts}
 use Rattle.ocl_collections.proofs.Rising.{kept_of, found}
 

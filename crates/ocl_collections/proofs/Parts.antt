@@ -1,5 +1,5 @@
 -- What `make` makes is well made.
-use Rattle.std.proofs.Common.{◌≡◌, ℕ, ◌≤◌, nat_le, ◌||◌, Bool, true, false, cond, List, [], ◌∷◌, ap, ap₂, refl, ◌∙◌, sym, subst, true≢false, arith}
+use Rattle.std.proofs.Common.{◌≡◌, ℕ, ◌≤◌, nat_le, ◌||◌, false, cond, List, [], ◌∷◌, ap, ap₂, refl, ◌∙◌, sym, subst, arith}
 use Rattle.std.specs.List.{AllByRecursion}
 use Rattle.std.proofs.lemmas.Bool.{cond_both}
 use Rattle.use_orders.proofs.Bags.{bag_bag}
@@ -11,7 +11,7 @@ use Rattle.ocl_values.specs.declared.value.Kind.TheVariants.{Set, OrderedSet, Ba
 use Rattle.ocl_values.specs.declared.value.Value.{Value}
 use Rattle.ocl_values.specs.declared.value.Value.TheVariants.{Coll, Invalid}
 use Rattle.ocl_values.specs.Logic.{is_invalid}
-use Rattle.ocl_values.specs.Shape.{levels_of, most_levels, canonical, canon, some_invalid, IsTidy, IsWellMade}
+use Rattle.ocl_values.specs.Shape.{most_levels, canonical, canon, some_invalid, IsTidy, IsWellMade}
 use Rattle.ocl_values.proofs.Exact.{value_exact, value_total}
 use Rattle.ocl_values.proofs.Rows.{levels_of-Coll, tidy_Coll}
 use Rattle.ocl_values.proofs.Elements.{IsPart, neither, parts_of}

@@ -1,6 +1,6 @@
 -- What the operations give is well made.
 use Rattle.std.proofs.Common.{◌≡◌, ℕ, zero, suc, ◌+◌, ◌-◌, ◌≤◌, not, Bool, true, false, if◌then◌else◌, All, List, [], ◌∷◌, ◌++◌, length, take, drop, reverse}
-use Rattle.std.proofs.Common.{filter, map, fold, get_or, refl, ap, sym, subst, ℤ, pos, negsuc, ◌+ℤ◌, ◌-ℤ◌, ◌*ℤ◌, neg_ℤ, int_div, unsigned_abs, max, Option}
+use Rattle.std.proofs.Common.{filter, map, fold, get_or, sym, subst, ℤ, pos, negsuc, ◌+ℤ◌, ◌-ℤ◌, ◌*ℤ◌, neg_ℤ, int_div, unsigned_abs, Option}
 use Rattle.std.proofs.Common.{Some, None, Ordering, is_eq, Result, Ok, Err, IfOk, arith}
 use Rattle.std.specs.List.{AllByRecursion, zip}
 use mathlib.Core.List.{reverse_aux}
@@ -18,7 +18,7 @@ use Rattle.ocl_values.specs.declared.value.Value.TheVariants.{Null, Invalid, Int
 use Rattle.ocl_values.specs.declared.integer.IntOp.{IntOp}
 use Rattle.ocl_values.specs.declared.integer.IntOp.TheVariants as I
 use Rattle.ocl_values.specs.Integers.{in_range, int_value, quotient, remainder, of_one as int_of_one, of_two as int_of_two, of_integer, int_op_value}
-use Rattle.ocl_values.specs.Shape.{levels_of, row_levels, most_levels, canon, some_invalid, IsTidy, AreTidy, IsWellMade}
+use Rattle.ocl_values.specs.Shape.{row_levels, canon, some_invalid, AreTidy, IsWellMade}
 use Rattle.ocl_collections.specs.declared.op.CollOp.{CollOp}
 use Rattle.ocl_collections.specs.declared.op.CollOp.TheVariants as C
 use Rattle.ocl_collections.specs.Arguments.{with_integer, with_collection}

@@ -1,5 +1,5 @@
 -- What the elements of a well-made collection are.
-use Rattle.std.proofs.Common.{◌≡◌, ◌≤◌, ◌||◌, Bool, true, false, All, List, [], ◌∷◌, refl, subst, true≢false, arith, lit≤}
+use Rattle.std.proofs.Common.{◌≡◌, ◌≤◌, ◌||◌, Bool, true, false, All, List, [], ◌∷◌, refl, true≢false, arith}
 use Rattle.std.specs.List.{AllByRecursion}
 use Rattle.std.proofs.lemmas.List.Elements.{All-from_recursion}
 use Rattle.ocl_values.specs.declared.value.Kind.{Kind}

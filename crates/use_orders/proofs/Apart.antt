@@ -1,6 +1,6 @@
 -- What is in one of two lists in order without repeats and not in the other, step by step.
 use Rattle.std.proofs.Common.{◌≡◌, ◌||◌, ◌&&◌, ◌++◌, ◌+◌, ◌<◌, ◌≤◌, ◌⊎◌, inl, inr, ⊎_elim, ℕ, zero, suc, not, Bool, true, false, cond, List, [], ◌∷◌}
-use Rattle.std.proofs.Common.{drop, filter, get_or, length, refl, sym, ap, ap₂, ◌∙◌, subst, arith, append_assoc, append-nil, drop_of_length-le}
+use Rattle.std.proofs.Common.{drop, get_or, length, refl, sym, ap, ap₂, ◌∙◌, subst, arith, append_assoc, append-nil, drop_of_length-le}
 use Rattle.std.proofs.Common.{Ordering, Less, Equal, Greater, is_eq}
 use Rattle.std.specs.Cmp.{IsTotalOrder}
 use Rattle.std.specs.FinMap.{IsAntisymmetric}

@@ -1,6 +1,6 @@
 -- Lists in which no two elements tie.
-use Rattle.std.proofs.Common.{◌≡◌, ◌||◌, ◌&&◌, ◌++◌, ◌≤◌, ℕ, zero, suc, not, Bool, true, false, cond, List, [], ◌∷◌, take, drop, reverse, refl, sym, ap, ap₂}
-use Rattle.std.proofs.Common.{◌∙◌, true≢false}
+use Rattle.std.proofs.Common.{◌≡◌, ◌||◌, ◌&&◌, ◌++◌, ℕ, zero, suc, not, Bool, true, false, List, [], ◌∷◌, take, drop, reverse, refl, sym, ap, ap₂}
+use Rattle.std.proofs.Common.{◌∙◌}
 use Rattle.std.proofs.Common.{Ordering, Less, Equal, Greater, is_eq}
 use mathlib.Core.List.{reverse_aux}
 use Rattle.std.specs.Ordering.{ordering_reverse}

@@ -1,6 +1,6 @@
 -- The elements beside which true stands, step by step, and what they keep.
-use Rattle.std.proofs.Common.{◌≡◌, ◌++◌, ◌+◌, ◌<◌, ℕ, zero, suc, Bool, true, false, cond, List, [], ◌∷◌, take, get_or, length, length-take, length-append}
-use Rattle.std.proofs.Common.{refl, sym, ap, ap₂, ◌∙◌, arith, IsSorted}
+use Rattle.std.proofs.Common.{◌≡◌, ◌++◌, ◌+◌, ◌<◌, ℕ, suc, Bool, true, false, cond, List, [], ◌∷◌, take, get_or, length, length-take, length-append}
+use Rattle.std.proofs.Common.{refl, sym, ap, ◌∙◌, arith, IsSorted}
 use Rattle.std.proofs.Common.{Ordering, Less, is_gt}
 use Rattle.std.specs.Cmp.{IsTotalOrder}
 use Rattle.std.specs.FinMap.{IsAntisymmetric}

@@ -1,7 +1,7 @@
 -- Each element of a list replaced by a list: what the first list repeats, or in which order it stands, changes no set, bag or first elements of the result.
 use Rattle.std.proofs.Common.{◌≡◌, ◌||◌, ◌++◌, ◌+◌, Bool, true, false, cond, fold, List, [], ◌∷◌, refl, sym, ap, ap₂, ◌∙◌, subst, arith, append-nil}
 use Rattle.std.proofs.Common.{append_assoc, true≢false}
-use Rattle.std.proofs.Common.{Ordering, Equal, is_eq, is_lt}
+use Rattle.std.proofs.Common.{Ordering, is_eq, is_lt}
 use Rattle.std.specs.Cmp.{IsTotalOrder}
 use Rattle.std.specs.FinMap.{IsAntisymmetric}
 use Rattle.std.specs.List.{AllByRecursion}

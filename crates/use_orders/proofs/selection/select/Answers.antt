@@ -1,4 +1,4 @@
-use Rattle.std.proofs.Common.{◌≡◌, ◌++◌, ◌∷◌, [], ◌∙◌, ap, sym, refl, false, cond, get_or, append_assoc}
+use Rattle.std.proofs.Common.{◌++◌, ◌∷◌, [], ◌∙◌, ap, sym, refl, false, cond, get_or, append_assoc}
 use Rattle.use_orders.proofs.Selected.{next_selected, within, length_more}
 use Rattle.use_orders.proofs.selection.select.Goals as goal
 
