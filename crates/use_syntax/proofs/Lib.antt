@@ -1,3 +1,4 @@
+pub mod Appended
 pub mod Ranked
 pub mod Fitness
 pub mod Lengths

@@ -7,8 +7,9 @@ use Rattle.use_syntax.specs.declared.row.Symbol.TheVariants.{Token, Rule, Part}
 use Rattle.use_syntax.specs.Forms.{Form, choice, each, optional, or_else}
 use Rattle.use_syntax.specs.Firsts.{names}
 
-abbrev pub command_forms : List Form
-command_forms =
+-- operations, statements, queries and checks
+abbrev pub query_forms : List Form
+query_forms =
     -- enter := 'openter' expr NAME args
     (each (Token Openter ∷ Rule r.Expr ∷ Part p.Name ∷ Rule r.Args ∷ [])) ∷
     -- exit := 'opexit' [ expr ]
@@ -23,6 +24,11 @@ command_forms =
     (each (Token Minus ∷ Part p.Name ∷ [])) ∷
     (optional (Minus ∷ []) (Part p.Option)) ∷
     (each (Token Check ∷ Part p.OptionalOption ∷ [])) ∷
+    []
+
+-- reports
+abbrev pub report_forms : List Form
+report_forms =
     -- info := 'info' ( 'class' NAME | 'model' | NAME )
     (each (Token Class ∷ Part p.Name ∷ [])) ∷
     (choice (((Class ∷ []), Part p.ClassName) ∷ ((Model ∷ []), Token Model) ∷ (names, Part p.Name) ∷ [])) ∷
@@ -31,6 +37,11 @@ command_forms =
     (each (Part p.Name ∷ Token Int ∷ [])) ∷
     (choice (((Int ∷ []), Token Int) ∷ (names, Part p.NamedView) ∷ [])) ∷
     (each (Token View ∷ Part p.Viewed ∷ [])) ∷
+    []
+
+-- any command
+abbrev pub command_forms : List Form
+command_forms =
     -- command := [ execute | enter | exit | query | check | info | view | 'undo' | 'redo' | 'reset' | 'quit' | 'exit' ] End
     (or_else (((Bang ∷ []), Rule r.Execute) ∷ ((Openter ∷ []), Rule r.Enter) ∷ ((Opexit ∷ []), Rule r.Exit) ∷ ((Question ∷ []), Rule r.Query) ∷ ((Check ∷ []), Rule r.Check) ∷ ((Info ∷ []), Rule r.Info) ∷ ((View ∷ []), Rule r.View) ∷ ((Undo ∷ []), Token Undo) ∷ ((Redo ∷ []), Token Redo) ∷ ((Reset ∷ []), Token Reset) ∷ ((Quit ∷ []), Token Quit) ∷ ((Exit ∷ []), Token Exit) ∷ []) (Part p.Nothing)) ∷
     (each (Part p.OptionalCommand ∷ Token End ∷ [])) ∷

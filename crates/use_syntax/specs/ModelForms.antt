@@ -7,8 +7,9 @@ use Rattle.use_syntax.specs.declared.row.Symbol.TheVariants.{Token, Rule, Part}
 use Rattle.use_syntax.specs.Forms.{Form, choice, each, optional, or_else, repeated}
 use Rattle.use_syntax.specs.Firsts.{names}
 
-abbrev pub model_forms : List Form
-model_forms =
+-- enumerations and heads of operations
+abbrev pub head_forms : List Form
+head_forms =
     -- [ ';' ]
     (optional (Semicolon ∷ []) (Token Semicolon)) ∷
     -- enum := 'enum' NAME '{' names '}' [ ';' ]
@@ -21,6 +22,11 @@ model_forms =
     (optional names (Rule r.Params)) ∷
     -- head := NAME '(' [ params ] ')' [ ':' type ]
     (each (Part p.Name ∷ Token LeftParen ∷ Part p.OptionalParams ∷ Token RightParen ∷ Part p.OptionalTypeMark ∷ [])) ∷
+    []
+
+-- conditions and operations
+abbrev pub oper_forms : List Form
+oper_forms =
     -- cond := ( 'pre' | 'post' ) [ NAME ] ':' expr
     (choice (((Pre ∷ []), Token Pre) ∷ ((Post ∷ []), Token Post) ∷ [])) ∷
     (optional names (Part p.Name)) ∷
@@ -34,6 +40,11 @@ model_forms =
     (each (Token Begin ∷ Rule r.Block ∷ Token EndWord ∷ [])) ∷
     (or_else (((Equal ∷ []), Part p.Value) ∷ ((Begin ∷ []), Part p.Statements) ∷ []) (Part p.Nothing)) ∷
     (each (Rule r.Head ∷ Part p.OptionalOperBody ∷ Part p.OptionalSemicolon ∷ Part p.Conds ∷ [])) ∷
+    []
+
+-- classes
+abbrev pub class_forms : List Form
+class_forms =
     -- attribute := NAME ':' type [ '=' expr ] [ ';' ]
     (optional (Equal ∷ []) (Part p.Value)) ∷
     (each (Part p.Name ∷ Part p.TypeMark ∷ Part p.OptionalValue ∷ Part p.OptionalSemicolon ∷ [])) ∷
@@ -51,6 +62,11 @@ model_forms =
     (each (Token Constraints ∷ Part p.Invs ∷ [])) ∷
     (optional (Constraints ∷ []) (Part p.InvsPart)) ∷
     (each (Part p.OptionalAbstract ∷ Token Class ∷ Part p.Name ∷ Part p.OptionalParents ∷ Part p.OptionalAttributes ∷ Part p.OptionalOpers ∷ Part p.OptionalInvs ∷ Token EndWord ∷ [])) ∷
+    []
+
+-- ends of associations
+abbrev pub end_forms : List Form
+end_forms =
     -- mult := '*' | INT [ '..' ( INT | '*' ) ]
     (choice (((Int ∷ []), Token Int) ∷ ((Star ∷ []), Token Star) ∷ [])) ∷
     (each (Token DoubleDot ∷ Part p.Upper ∷ [])) ∷
@@ -64,9 +80,19 @@ model_forms =
     (optional (Role ∷ []) (Part p.RoleName)) ∷
     (optional (Ordered ∷ []) (Token Ordered)) ∷
     (each (Part p.Name ∷ Token LeftBracket ∷ Rule r.Mult ∷ Part p.MoreMults ∷ Token RightBracket ∷ Part p.OptionalRole ∷ Part p.OptionalOrdered ∷ Part p.OptionalSemicolon ∷ [])) ∷
+    []
+
+-- associations
+abbrev pub assoc_forms : List Form
+assoc_forms =
     -- assoc := ( 'association' | 'aggregation' | 'composition' ) NAME 'between' assocend assocend 'end'
     (choice (((Association ∷ []), Token Association) ∷ ((Aggregation ∷ []), Token Aggregation) ∷ ((Composition ∷ []), Token Composition) ∷ [])) ∷
     (each (Part p.AssocKind ∷ Part p.Name ∷ Token Between ∷ Rule r.AssocEnd ∷ Rule r.AssocEnd ∷ Token EndWord ∷ [])) ∷
+    []
+
+-- contexts of constraints
+abbrev pub context_forms : List Form
+context_forms =
     -- context := 'context' NAME ( ':' NAME inv { inv } | '::' head cond { cond } | inv { inv } )
     (each (Rule r.Inv ∷ Part p.Invs ∷ [])) ∷
     (each (Token Colon ∷ Part p.Name ∷ Part p.SomeInvs ∷ [])) ∷
@@ -76,6 +102,11 @@ model_forms =
     -- constraints := 'constraints' { context }
     (repeated (Context ∷ []) (Rule r.Context)) ∷
     (each (Token Constraints ∷ Part p.Contexts ∷ [])) ∷
+    []
+
+-- a whole model
+abbrev pub file_forms : List Form
+file_forms =
     -- file := 'model' NAME { enum | class | assoc | constraints } End
     (choice (((Enum ∷ []), Rule r.Enum) ∷ ((Abstract ∷ Class ∷ []), Rule r.Class) ∷ ((Association ∷ Aggregation ∷ Composition ∷ []), Rule r.Assoc) ∷ ((Constraints ∷ []), Rule r.Constraints) ∷ [])) ∷
     (repeated (Enum ∷ Abstract ∷ Class ∷ Association ∷ Aggregation ∷ Composition ∷ Constraints ∷ []) (Part p.FileItem)) ∷

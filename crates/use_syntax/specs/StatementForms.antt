@@ -7,8 +7,9 @@ use Rattle.use_syntax.specs.declared.row.Symbol.TheVariants.{Token, Rule, Part}
 use Rattle.use_syntax.specs.Forms.{Form, each, optional, or_else, repeated}
 use Rattle.use_syntax.specs.Firsts.{expressions, statements}
 
-abbrev pub statement_forms : List Form
-statement_forms =
+-- blocks and of new objects
+abbrev pub block_forms : List Form
+block_forms =
     -- block := [ stmt ] { ';' [ stmt ] }
     (optional statements (Rule r.Stmt)) ∷
     (each (Token Semicolon ∷ Part p.OptionalStmt ∷ [])) ∷
@@ -21,6 +22,11 @@ statement_forms =
     (each (Token New ∷ Part p.Name ∷ Part p.OptionalNewName ∷ [])) ∷
     -- rhs := new | expr
     (or_else (((New ∷ []), Rule r.New) ∷ []) (Rule r.Expr)) ∷
+    []
+
+-- changes of a state
+abbrev pub change_forms : List Form
+change_forms =
     -- create := 'create' names ':' NAME
     (each (Token Create ∷ Rule r.Names ∷ Token Colon ∷ Part p.Name ∷ [])) ∷
     -- set := 'set' expr ':=' rhs
@@ -36,6 +42,11 @@ statement_forms =
     (each (Token Delete ∷ Part p.Pair ∷ Token From ∷ Part p.Name ∷ [])) ∷
     -- declare := 'declare' names ':' type
     (each (Token Declare ∷ Rule r.Names ∷ Part p.TypeMark ∷ [])) ∷
+    []
+
+-- branches and loops
+abbrev pub control_forms : List Form
+control_forms =
     -- branch := 'if' expr 'then' block [ 'else' block ] 'end'
     (each (Token Else ∷ Rule r.Block ∷ [])) ∷
     (optional (Else ∷ []) (Part p.ElseBlock)) ∷
@@ -45,6 +56,11 @@ statement_forms =
     (each (Token For ∷ Part p.Name ∷ Token In ∷ Rule r.Expr ∷ Part p.LoopBody ∷ [])) ∷
     -- while := 'while' expr 'do' block 'end'
     (each (Token While ∷ Rule r.Expr ∷ Part p.LoopBody ∷ [])) ∷
+    []
+
+-- assignments, and of any statement
+abbrev pub statement_forms : List Form
+statement_forms =
     -- assign := expr [ ':=' rhs ]
     (each (Token Assign ∷ Rule r.Rhs ∷ [])) ∷
     (optional (Assign ∷ []) (Part p.NewValue)) ∷

@@ -7,8 +7,9 @@ use Rattle.use_syntax.specs.declared.row.Symbol.TheVariants.{Token, Rule, Part}
 use Rattle.use_syntax.specs.Forms.{Form, choice, each, optional, repeated}
 use Rattle.use_syntax.specs.Firsts.{kinds, names}
 
-abbrev pub type_forms : List Form
-type_forms =
+-- names
+abbrev pub name_forms : List Form
+name_forms =
     -- nothing at all
     (each []) ∷
     -- NAME: a name or a command word
@@ -17,6 +18,11 @@ type_forms =
     (each (Token Comma ∷ Part p.Name ∷ [])) ∷
     (repeated (Comma ∷ []) (Part p.MoreName)) ∷
     (each (Part p.Name ∷ Part p.MoreNames ∷ [])) ∷
+    []
+
+-- types
+abbrev pub type_forms : List Form
+type_forms =
     -- 'Set' | 'OrderedSet' | 'Bag' | 'Sequence'
     (choice (((Set ∷ []), Token Set) ∷ ((OrderedSet ∷ []), Token OrderedSet) ∷ ((Bag ∷ []), Token Bag) ∷ ((Sequence ∷ []), Token Sequence) ∷ [])) ∷
     -- type := NAME | kind '(' type ')'

@@ -9,8 +9,8 @@ use use_text::TokenKind::{
     Reset, Undo, View,
 };
 
-/// The productions of commands, those of `Part` in order.
-pub(crate) static COMMAND_PARTS: [Row; 17] = [
+/// The productions of operations, statements, queries and checks, those of `Part` in order.
+pub(crate) static QUERY_ROWS: [Row; 9] = [
     // enter := 'openter' expr NAME args
     Each(&[T(Openter), R(Rule::Expr), P(Part::Name), R(Rule::Args)]),
     // exit := 'opexit' [ expr ]
@@ -28,6 +28,10 @@ pub(crate) static COMMAND_PARTS: [Row; 17] = [
     Each(&[T(Minus), P(Part::Name)]),
     Optional(&[Minus], P(Part::Option)),
     Each(&[T(Check), P(Part::OptionalOption)]),
+];
+
+/// The productions of reports, those of `Part` in order.
+pub(crate) static REPORT_ROWS: [Row; 6] = [
     // info := 'info' ( 'class' NAME | 'model' | NAME )
     Each(&[T(Class), P(Part::Name)]),
     Choice(&[
@@ -40,6 +44,10 @@ pub(crate) static COMMAND_PARTS: [Row; 17] = [
     Each(&[P(Part::Name), T(Int)]),
     Choice(&[(&[Int], T(Int)), (NAMES, P(Part::NamedView))]),
     Each(&[T(View), P(Part::Viewed)]),
+];
+
+/// The productions of any command, those of `Part` in order.
+pub(crate) static COMMAND_ROWS: [Row; 2] = [
     // command := [ execute | enter | exit | query | check | info | view | 'undo' | 'redo' | 'reset' | 'quit' | 'exit' ] End
     OrElse(
         &[

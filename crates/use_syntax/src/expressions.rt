@@ -11,14 +11,18 @@ use use_text::TokenKind::{
     Star, Str, Then, True, Undefined, Xor,
 };
 
-/// The productions of expressions, those of `Part` in order.
-pub(crate) static EXPRESSION_PARTS: [Row; 75] = [
+/// The productions of items of arguments, those of `Part` in order.
+pub(crate) static ITEM_ROWS: [Row; 5] = [
     // item := expr [ ':' type [ '=' expr ] ]
     Each(&[T(Equal), R(Rule::Expr)]),
     Optional(&[Equal], P(Part::ItemStart)),
     Each(&[T(Colon), R(Rule::Type), P(Part::OptionalItemStart)]),
     Optional(&[Colon], P(Part::ItemType)),
     Each(&[R(Rule::Expr), P(Part::OptionalItemType)]),
+];
+
+/// The productions of arguments, those of `Part` in order.
+pub(crate) static ARGS_ROWS: [Row; 10] = [
     // args := '(' [ item { ',' item } [ ';' item ] [ '|' expr ] ] ')'
     Each(&[T(Comma), R(Rule::Item)]),
     Repeated(&[Comma], P(Part::MoreItem)),
@@ -35,6 +39,10 @@ pub(crate) static EXPRESSION_PARTS: [Row; 75] = [
     Optional(EXPRESSIONS, P(Part::Items)),
     Each(&[T(LeftParen), P(Part::OptionalItems), T(RightParen)]),
     Optional(&[LeftParen], R(Rule::Args)),
+];
+
+/// The productions of collections, those of `Part` in order.
+pub(crate) static COLLECTION_ROWS: [Row; 8] = [
     // part := expr [ '..' expr ]
     Each(&[T(DoubleDot), R(Rule::Expr)]),
     Optional(&[DoubleDot], P(Part::PartEnd)),
@@ -50,6 +58,10 @@ pub(crate) static EXPRESSION_PARTS: [Row; 75] = [
         P(Part::OptionalParts),
         T(RightBrace),
     ]),
+];
+
+/// The productions of names, literals, groups and choices, those of `Part` in order.
+pub(crate) static NAMED_ROWS: [Row; 7] = [
     // named := NAME [ '::' NAME ] [ '@pre' ] [ args ]
     Each(&[T(DoubleColon), P(Part::Name)]),
     Optional(&[DoubleColon], P(Part::Member)),
@@ -74,6 +86,10 @@ pub(crate) static EXPRESSION_PARTS: [Row; 75] = [
         R(Rule::Expr),
         T(Endif),
     ]),
+];
+
+/// The productions of primary expressions, those of `Part` in order.
+pub(crate) static PRIMARY_ROWS: [Row; 1] = [
     // primary := INT | STRING | 'true' | 'false' | 'null' | 'Undefined' | 'invalid' | literal | collection | named | group | choice
     Choice(&[
         (&[Int], T(Int)),
@@ -89,6 +105,10 @@ pub(crate) static EXPRESSION_PARTS: [Row; 75] = [
         (&[LeftParen], R(Rule::Group)),
         (&[If], R(Rule::Choice)),
     ]),
+];
+
+/// The productions of members behind a dot, those of `Part` in order.
+pub(crate) static DOT_ROWS: [Row; 5] = [
     // dot := '.' ( NAME [ '@pre' ] [ args ] | ( 'div' | 'mod' ) args )
     Each(&[P(Part::Name), P(Part::OptionalAtPre), P(Part::OptionalArgs)]),
     Each(&[T(Div), R(Rule::Args)]),
@@ -99,12 +119,20 @@ pub(crate) static EXPRESSION_PARTS: [Row; 75] = [
         (&[Mod], P(Part::DottedMod)),
     ]),
     Each(&[T(Dot), P(Part::DotMember)]),
+];
+
+/// The productions of members behind an arrow, and of rows of members, those of `Part` in order.
+pub(crate) static POSTFIX_ROWS: [Row; 4] = [
     // arrow := '->' NAME [ args ]
     Each(&[T(Arrow), P(Part::Name), P(Part::OptionalArgs)]),
     // postfix := primary { dot | arrow }
     Choice(&[(&[Dot], R(Rule::Dot)), (&[Arrow], R(Rule::Arrow))]),
     Repeated(&[Dot, Arrow], P(Part::PostfixStep)),
     Each(&[R(Rule::Primary), P(Part::PostfixSteps)]),
+];
+
+/// The productions of `let` and of unary operators, those of `Part` in order.
+pub(crate) static UNARY_ROWS: [Row; 7] = [
     // bind := NAME [ ':' type ] '=' expr
     Each(&[
         P(Part::Name),
@@ -133,6 +161,10 @@ pub(crate) static EXPRESSION_PARTS: [Row; 75] = [
         ],
         R(Rule::Postfix),
     ),
+];
+
+/// The productions of arithmetic operators, those of `Part` in order.
+pub(crate) static ARITHMETIC_ROWS: [Row; 8] = [
     // muls := unary { ( '*' | 'div' | 'mod' ) unary }
     Choice(&[(&[Star], T(Star)), (&[Div], T(Div)), (&[Mod], T(Mod))]),
     Each(&[P(Part::MulOperator), R(Rule::Unary)]),
@@ -143,6 +175,10 @@ pub(crate) static EXPRESSION_PARTS: [Row; 75] = [
     Each(&[P(Part::SumOperator), R(Rule::Muls)]),
     Repeated(&[Plus, Minus], P(Part::SumStep)),
     Each(&[R(Rule::Muls), P(Part::SumSteps)]),
+];
+
+/// The productions of comparisons, those of `Part` in order.
+pub(crate) static COMPARISON_ROWS: [Row; 8] = [
     // rels := sums { ( '<' | '<=' | '>' | '>=' ) sums }
     Choice(&[
         (&[Less], T(Less)),
@@ -158,6 +194,10 @@ pub(crate) static EXPRESSION_PARTS: [Row; 75] = [
     Each(&[P(Part::EqOperator), R(Rule::Rels)]),
     Repeated(&[Equal, NotEqual], P(Part::EqStep)),
     Each(&[R(Rule::Rels), P(Part::EqSteps)]),
+];
+
+/// The productions of logical operators, those of `Part` in order.
+pub(crate) static LOGIC_ROWS: [Row; 12] = [
     // ands := eqs { 'and' eqs }
     Each(&[T(And), R(Rule::Eqs)]),
     Repeated(&[And], P(Part::AndStep)),

@@ -11,8 +11,8 @@ use use_text::TokenKind::{
     RightBracket, RightParen, Role, Semicolon, Star,
 };
 
-/// The productions of models, those of `Part` in order.
-pub(crate) static MODEL_PARTS: [Row; 55] = [
+/// The productions of enumerations and heads of operations, those of `Part` in order.
+pub(crate) static HEAD_ROWS: [Row; 8] = [
     // [ ';' ]
     Optional(&[Semicolon], T(Semicolon)),
     // enum := 'enum' NAME '{' names '}' [ ';' ]
@@ -38,6 +38,10 @@ pub(crate) static MODEL_PARTS: [Row; 55] = [
         T(RightParen),
         P(Part::OptionalTypeMark),
     ]),
+];
+
+/// The productions of conditions and operations, those of `Part` in order.
+pub(crate) static OPER_ROWS: [Row; 10] = [
     // cond := ( 'pre' | 'post' ) [ NAME ] ':' expr
     Choice(&[(&[Pre], T(Pre)), (&[Post], T(Post))]),
     Optional(NAMES, P(Part::Name)),
@@ -64,6 +68,10 @@ pub(crate) static MODEL_PARTS: [Row; 55] = [
         P(Part::OptionalSemicolon),
         P(Part::Conds),
     ]),
+];
+
+/// The productions of classes, those of `Part` in order.
+pub(crate) static CLASS_ROWS: [Row; 14] = [
     // attribute := NAME ':' type [ '=' expr ] [ ';' ]
     Optional(&[Equal], P(Part::Value)),
     Each(&[
@@ -95,6 +103,10 @@ pub(crate) static MODEL_PARTS: [Row; 55] = [
         P(Part::OptionalInvs),
         T(EndWord),
     ]),
+];
+
+/// The productions of ends of associations, those of `Part` in order.
+pub(crate) static END_ROWS: [Row; 11] = [
     // mult := '*' | INT [ '..' ( INT | '*' ) ]
     Choice(&[(&[Int], T(Int)), (&[Star], T(Star))]),
     Each(&[T(DoubleDot), P(Part::Upper)]),
@@ -117,6 +129,10 @@ pub(crate) static MODEL_PARTS: [Row; 55] = [
         P(Part::OptionalOrdered),
         P(Part::OptionalSemicolon),
     ]),
+];
+
+/// The productions of associations, those of `Part` in order.
+pub(crate) static ASSOC_ROWS: [Row; 2] = [
     // assoc := ( 'association' | 'aggregation' | 'composition' ) NAME 'between' assocend assocend 'end'
     Choice(&[
         (&[Association], T(Association)),
@@ -131,6 +147,10 @@ pub(crate) static MODEL_PARTS: [Row; 55] = [
         R(Rule::AssocEnd),
         T(EndWord),
     ]),
+];
+
+/// The productions of contexts of constraints, those of `Part` in order.
+pub(crate) static CONTEXT_ROWS: [Row; 7] = [
     // context := 'context' NAME ( ':' NAME inv { inv } | '::' head cond { cond } | inv { inv } )
     Each(&[R(Rule::Inv), P(Part::Invs)]),
     Each(&[T(Colon), P(Part::Name), P(Part::SomeInvs)]),
@@ -144,6 +164,10 @@ pub(crate) static MODEL_PARTS: [Row; 55] = [
     // constraints := 'constraints' { context }
     Repeated(&[Context], R(Rule::Context)),
     Each(&[T(Constraints), P(Part::Contexts)]),
+];
+
+/// The productions of a whole model, those of `Part` in order.
+pub(crate) static FILE_ROWS: [Row; 3] = [
     // file := 'model' NAME { enum | class | assoc | constraints } End
     Choice(&[
         (&[Enum], R(Rule::Enum)),

@@ -9,8 +9,8 @@ use use_text::TokenKind::{
     Insert, Into, LeftParen, New, RightParen, Semicolon, SetWord, Then, While,
 };
 
-/// The productions of statements, those of `Part` in order.
-pub(crate) static STATEMENT_PARTS: [Row; 28] = [
+/// The productions of blocks and of new objects, those of `Part` in order.
+pub(crate) static BLOCK_ROWS: [Row; 9] = [
     // block := [ stmt ] { ';' [ stmt ] }
     Optional(STATEMENTS, R(Rule::Stmt)),
     Each(&[T(Semicolon), P(Part::OptionalStmt)]),
@@ -23,6 +23,10 @@ pub(crate) static STATEMENT_PARTS: [Row; 28] = [
     Each(&[T(New), P(Part::Name), P(Part::OptionalNewName)]),
     // rhs := new | expr
     OrElse(&[(&[New], R(Rule::New))], R(Rule::Expr)),
+];
+
+/// The productions of changes of a state, those of `Part` in order.
+pub(crate) static CHANGE_ROWS: [Row; 9] = [
     // create := 'create' names ':' NAME
     Each(&[T(Create), R(Rule::Names), T(Colon), P(Part::Name)]),
     // set := 'set' expr ':=' rhs
@@ -44,6 +48,10 @@ pub(crate) static STATEMENT_PARTS: [Row; 28] = [
     Each(&[T(Delete), P(Part::Pair), T(From), P(Part::Name)]),
     // declare := 'declare' names ':' type
     Each(&[T(Declare), R(Rule::Names), P(Part::TypeMark)]),
+];
+
+/// The productions of branches and loops, those of `Part` in order.
+pub(crate) static CONTROL_ROWS: [Row; 6] = [
     // branch := 'if' expr 'then' block [ 'else' block ] 'end'
     Each(&[T(Else), R(Rule::Block)]),
     Optional(&[Else], P(Part::ElseBlock)),
@@ -66,6 +74,10 @@ pub(crate) static STATEMENT_PARTS: [Row; 28] = [
     ]),
     // while := 'while' expr 'do' block 'end'
     Each(&[T(While), R(Rule::Expr), P(Part::LoopBody)]),
+];
+
+/// The productions of assignments, and of any statement, those of `Part` in order.
+pub(crate) static STATEMENT_ROWS: [Row; 4] = [
     // assign := expr [ ':=' rhs ]
     Each(&[T(Assign), R(Rule::Rhs)]),
     Optional(&[Assign], P(Part::NewValue)),

@@ -5,14 +5,19 @@ ghost use Rattle.use_syntax.specs.declared.row.Symbol.TheVariants.{Part as Symbo
 ghost use Rattle.use_syntax.specs.Forms.{branch_of, form_of, place_of, prod_of};
 ghost use Rattle.use_syntax.specs.Language.{all_prods, bodies, call_prods, command_prods, expression_prods, language, model_prods, nests, statement_prods, token_prods, type_prods};
 
-use crate::commands::COMMAND_PARTS;
-use crate::expressions::EXPRESSION_PARTS;
-use crate::models::MODEL_PARTS;
+use crate::commands::{COMMAND_ROWS, QUERY_ROWS, REPORT_ROWS};
+use crate::expressions::{
+    ARGS_ROWS, ARITHMETIC_ROWS, COLLECTION_ROWS, COMPARISON_ROWS, DOT_ROWS, ITEM_ROWS, LOGIC_ROWS,
+    NAMED_ROWS, POSTFIX_ROWS, PRIMARY_ROWS, UNARY_ROWS,
+};
+use crate::models::{
+    ASSOC_ROWS, CLASS_ROWS, CONTEXT_ROWS, END_ROWS, FILE_ROWS, HEAD_ROWS, OPER_ROWS,
+};
 use crate::part::Part;
 use crate::row::{Row, Symbol};
 use crate::rules::RULES;
-use crate::statements::STATEMENT_PARTS;
-use crate::types::TYPE_PARTS;
+use crate::statements::{BLOCK_ROWS, CHANGE_ROWS, CONTROL_ROWS, STATEMENT_ROWS};
+use crate::types::{NAME_ROWS, TYPE_ROWS};
 use grammar_core::{Branch, Grammar, GrammarFault, Prod};
 use std::alloc::{AllocError, Global};
 use use_lists::Items;
@@ -139,31 +144,58 @@ fn push_calls(prods: &mut Vec<Prod>) -> Result<(), AllocError>
 fn push_types(alloc: Global, prods: &mut Vec<Prod>) -> Result<(), AllocError>
     ensures { OnOk result (prods.new.items ≡ prods.old.items ++ type_prods) }
 {
-    push_rows(alloc, &TYPE_PARTS, prods)
+    push_rows(alloc, &NAME_ROWS, prods)?;
+    push_rows(alloc, &TYPE_ROWS, prods)?;
+    Ok(())
 }
 
 fn push_expressions(alloc: Global, prods: &mut Vec<Prod>) -> Result<(), AllocError>
     ensures { OnOk result (prods.new.items ≡ prods.old.items ++ expression_prods) }
 {
-    push_rows(alloc, &EXPRESSION_PARTS, prods)
+    push_rows(alloc, &ITEM_ROWS, prods)?;
+    push_rows(alloc, &ARGS_ROWS, prods)?;
+    push_rows(alloc, &COLLECTION_ROWS, prods)?;
+    push_rows(alloc, &NAMED_ROWS, prods)?;
+    push_rows(alloc, &PRIMARY_ROWS, prods)?;
+    push_rows(alloc, &DOT_ROWS, prods)?;
+    push_rows(alloc, &POSTFIX_ROWS, prods)?;
+    push_rows(alloc, &UNARY_ROWS, prods)?;
+    push_rows(alloc, &ARITHMETIC_ROWS, prods)?;
+    push_rows(alloc, &COMPARISON_ROWS, prods)?;
+    push_rows(alloc, &LOGIC_ROWS, prods)?;
+    Ok(())
 }
 
 fn push_statements(alloc: Global, prods: &mut Vec<Prod>) -> Result<(), AllocError>
     ensures { OnOk result (prods.new.items ≡ prods.old.items ++ statement_prods) }
 {
-    push_rows(alloc, &STATEMENT_PARTS, prods)
+    push_rows(alloc, &BLOCK_ROWS, prods)?;
+    push_rows(alloc, &CHANGE_ROWS, prods)?;
+    push_rows(alloc, &CONTROL_ROWS, prods)?;
+    push_rows(alloc, &STATEMENT_ROWS, prods)?;
+    Ok(())
 }
 
 fn push_commands(alloc: Global, prods: &mut Vec<Prod>) -> Result<(), AllocError>
     ensures { OnOk result (prods.new.items ≡ prods.old.items ++ command_prods) }
 {
-    push_rows(alloc, &COMMAND_PARTS, prods)
+    push_rows(alloc, &QUERY_ROWS, prods)?;
+    push_rows(alloc, &REPORT_ROWS, prods)?;
+    push_rows(alloc, &COMMAND_ROWS, prods)?;
+    Ok(())
 }
 
 fn push_models(alloc: Global, prods: &mut Vec<Prod>) -> Result<(), AllocError>
     ensures { OnOk result (prods.new.items ≡ prods.old.items ++ model_prods) }
 {
-    push_rows(alloc, &MODEL_PARTS, prods)
+    push_rows(alloc, &HEAD_ROWS, prods)?;
+    push_rows(alloc, &OPER_ROWS, prods)?;
+    push_rows(alloc, &CLASS_ROWS, prods)?;
+    push_rows(alloc, &END_ROWS, prods)?;
+    push_rows(alloc, &ASSOC_ROWS, prods)?;
+    push_rows(alloc, &CONTEXT_ROWS, prods)?;
+    push_rows(alloc, &FILE_ROWS, prods)?;
+    Ok(())
 }
 
 /// All the productions: tokens, calls of rules, and those with names.

@@ -9,8 +9,8 @@ use use_text::TokenKind::{
     OrderedSet, Quit, Redo, Reset, RightParen, Sequence, Set, SetWord, Undo, View,
 };
 
-/// The productions of names and types, those of `Part` in order.
-pub(crate) static TYPE_PARTS: [Row; 10] = [
+/// The productions of names, those of `Part` in order.
+pub(crate) static NAME_ROWS: [Row; 5] = [
     // nothing at all
     Each(&[]),
     // NAME: a name or a command word
@@ -34,6 +34,10 @@ pub(crate) static TYPE_PARTS: [Row; 10] = [
     Each(&[T(Comma), P(Part::Name)]),
     Repeated(&[Comma], P(Part::MoreName)),
     Each(&[P(Part::Name), P(Part::MoreNames)]),
+];
+
+/// The productions of types, those of `Part` in order.
+pub(crate) static TYPE_ROWS: [Row; 5] = [
     // 'Set' | 'OrderedSet' | 'Bag' | 'Sequence'
     Choice(&[
         (&[Set], T(Set)),
