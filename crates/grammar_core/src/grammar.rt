@@ -53,6 +53,21 @@ impl Grammar {
         }
     }
 
+    /// A table that is known to be fit, which is not tested.
+    pub fn of_fit(prods: Vec<Prod>, rules: Vec<u16>, nests: Vec<bool>) -> Grammar
+        requires { IsFit (table_of prods.items rules.items nests.items) }
+        ensures is { result ≡ table_of prods.items rules.items nests.items }
+        ensures fit { IsFit result }
+    {
+        Grammar {
+            table: Table {
+                prods: Items::from_vec(prods),
+                rules: Items::from_vec(rules),
+                nests: Items::from_vec(nests),
+            },
+        }
+    }
+
     pub(crate) fn table(&self) -> &Table
         ensures is { result.now ≡ self.now }
         ensures fit { IsFit self.now }

@@ -6,3 +6,4 @@ pub mod Judged
 pub mod Ended
 pub mod Plain
 pub mod Standing
+pub mod Held

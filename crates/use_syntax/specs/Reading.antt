@@ -9,7 +9,7 @@ use Rattle.use_text.specs.Places.{place_at}
 use Rattle.use_text.specs.Refusals.{refusal_at}
 use Rattle.use_text.specs.Tokens.{Tokens, tokens}
 use Rattle.grammar_core.specs.Arena.{root_tree}
-use Rattle.grammar_core.specs.Derives.{Verdict, derived, stuck, deep, kinds}
+use Rattle.grammar_core.specs.Derives.{Verdict, derived, stuck, deep, kinds, Holds}
 use Rattle.grammar_core.specs.Parses.{verdict}
 use Rattle.grammar_core.specs.Trees.{ParseTree}
 use Rattle.use_syntax.specs.declared.fault.SyntaxFault.{SyntaxFault}
@@ -74,3 +74,14 @@ StandsAtToken ts (deep at) = at < length ts
 -- whatever text is read as this rule
 abbrev pub RefusalsStandAtTokens : Rule → Type 0
 RefusalsStandAtTokens start = (first_line : ℕ) (text : List ℕ) (ts : List Token) → tokens first_line text ≡ Ok ts → StandsAtToken ts (verdict language (kinds ts) (number_of_rule start))
+
+-- what tokens are read as is what the relation of derivations says of them, and it says one thing of them
+pub record SaysOf (start : Rule) (ts : List Token) (given : Reading) : Type 0 where
+  pub verdict : Verdict
+  pub holds : Holds language (kinds ts) (number_of_rule start) verdict
+  pub only : (v : Verdict) → Holds language (kinds ts) (number_of_rule start) v → verdict ≡ v
+  pub is : given ≡ judged ts verdict
+
+-- whatever text is read as this rule
+abbrev pub IsReadAsHeld : Rule → Type 0
+IsReadAsHeld start = (first_line : ℕ) (text : List ℕ) (ts : List Token) → tokens first_line text ≡ Ok ts → SaysOf start ts (read (number_of_rule start) first_line text)

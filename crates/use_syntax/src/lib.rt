@@ -18,7 +18,7 @@ mod table;
 mod types;
 
 pub use fault::SyntaxFault;
-pub use law::refusals_stand_at_tokens;
+pub use law::{language_is_fit, readings_are_held, refusals_stand_at_tokens};
 pub use parsed::Parsed;
 pub use read::{read_command, read_model};
 pub use rule::Rule;

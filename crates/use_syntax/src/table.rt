@@ -247,22 +247,13 @@ fn rule_nests(alloc: Global) -> Result<Vec<bool>, AllocError>
     flags_of_rules(alloc, &RULES)
 }
 
-/// The grammar of the language.
+/// The grammar of the language. It is not tested: that no production is unfit is known.
 pub fn grammar(alloc: Global) -> Result<Grammar, GrammarFault>
     ensures ok { IfOk result (λ g. g ≡ language) }
     ensures err { IfErr result (λ e. e ≡ Memory) }
 {
-    let prods = match productions(alloc) {
-        Ok(prods) => prods,
-        Err(_) => return Err(GrammarFault::Memory),
-    };
-    let places = match rule_places(alloc) {
-        Ok(places) => places,
-        Err(_) => return Err(GrammarFault::Memory),
-    };
-    let flags = match rule_nests(alloc) {
-        Ok(flags) => flags,
-        Err(_) => return Err(GrammarFault::Memory),
-    };
-    Grammar::new(alloc, prods, places, flags)
+    let prods = productions(alloc)?;
+    let places = rule_places(alloc)?;
+    let nests = rule_nests(alloc)?;
+    Ok(Grammar::of_fit(prods, places, nests))
 }
