@@ -15,6 +15,7 @@ use Rattle.grammar_core.specs.Trees.{ParseTree}
 use Rattle.use_syntax.specs.declared.fault.SyntaxFault.{SyntaxFault}
 use Rattle.use_syntax.specs.declared.fault.SyntaxFault.TheVariants.{Memory, Refused}
 use Rattle.use_syntax.specs.declared.parsed.Parsed.{Parsed}
+use Rattle.use_syntax.specs.declared.parsed.TokenTree.{TokenTree}
 use Rattle.use_syntax.specs.declared.rule.Rule.{Rule}
 use Rattle.use_syntax.specs.declared.rule.Rule.TheVariants as r
 use Rattle.use_syntax.specs.Language.{language}
@@ -64,6 +65,12 @@ abbrev pub Reads : Reading → List ℕ → Result Parsed SyntaxFault → Type 0
 Reads given text (Ok p) = (given ≡ parsed p.tokens (root_tree p.tree)) × (p.text ≡ text)
 Reads given text (Err Memory) = ⊤
 Reads given text (Err (Refused r)) = given ≡ refused r
+
+-- the same, without the text
+abbrev pub ReadsTree : Reading → Result TokenTree SyntaxFault → Type 0
+ReadsTree given (Ok p) = given ≡ parsed p.tokens (root_tree p.tree)
+ReadsTree given (Err Memory) = ⊤
+ReadsTree given (Err (Refused r)) = given ≡ refused r
 
 -- a refusal by the grammar stands at one of the tokens, so that its place is that token's
 abbrev pub StandsAtToken : List Token → Verdict → Type 0

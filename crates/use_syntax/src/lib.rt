@@ -10,6 +10,7 @@ mod models;
 mod parsed;
 mod part;
 mod read;
+mod reader;
 mod row;
 mod rule;
 mod rules;
@@ -19,8 +20,9 @@ mod types;
 
 pub use fault::SyntaxFault;
 pub use law::{language_is_fit, readings_are_held, refusals_stand_at_tokens};
-pub use parsed::Parsed;
+pub use parsed::{Parsed, TokenTree};
 pub use read::{read_command, read_model};
+pub use reader::Reader;
 pub use rule::Rule;
 pub use table::grammar;
 

@@ -255,5 +255,5 @@ pub fn grammar(alloc: Global) -> Result<Grammar, GrammarFault>
     let prods = productions(alloc)?;
     let places = rule_places(alloc)?;
     let nests = rule_nests(alloc)?;
-    Ok(Grammar::of_fit(prods, places, nests))
+    Ok(Grammar::of_fit(alloc, prods, places, nests)?)
 }

@@ -18,4 +18,4 @@ of_fit-requires c =
 
 pub returns-clause-ok : goal.returns-clause-ok
 returns-clause-ok c =
-    c.of_fit.ensures.is ∙ same c.in_ok-prods.prods.items c.in_ok-places.places.items c.in_ok-nests.nests.items c.in_ok-prods.ensures c.in_ok-places.ensures c.in_ok-nests.ensures
+    c.in_ok-of_fit.ensures.is ∙ same c.in_ok-prods.prods.items c.in_ok-places.places.items c.in_ok-nests.nests.items c.in_ok-prods.ensures c.in_ok-places.ensures c.in_ok-nests.ensures
