@@ -1,6 +1,6 @@
 -- Nodes of a tree, by their rules and tokens and by where they stand.
-use Rattle.std.specs.Prelude.{ℕ, ◌==◌, ◌&&◌, ◌||◌, Bool, true, false, not, length, if◌then◌else◌, List, [], ◌∷◌, filter, Option, Some, None, is_some, slice_get}
-use Rattle.grammar_core.specs.Trees.{ParseTree, leaf, node, below, place_of}
+use Rattle.std.specs.Prelude.{ℕ, ⊤, ◌==◌, ◌&&◌, ◌||◌, Bool, true, false, not, length, if◌then◌else◌, List, [], ◌∷◌, filter, Option, Some, None, is_some, slice_get}
+use Rattle.grammar_core.specs.Trees.{ParseTree, leaf, node, below, place_of, Row}
 use Rattle.use_text.specs.declared.place.Place.{Place}
 use Rattle.use_text.specs.declared.token.Token.{Token}
 use Rattle.use_text.specs.declared.token.TokenKind.{TokenKind}
@@ -89,6 +89,12 @@ token_in ts t = and_then (place_of t) (slice_get ts)
 -- what is there of a node of this rule; of another there is nothing
 abbrev pub of : {A : Type 0} → Rule → ParseTree → Option A → Option A
 of rule t parts = if is_rule rule t then parts else None
+
+-- it holds of each node of a row, and of each below it
+abbrev pub EachNode : (ParseTree → Type 0) → Row → Type 0
+EachNode P Row.none = ⊤
+EachNode P (Row.token k at row) = EachNode P row
+EachNode P (Row.rule r below row) = P (node r below) × EachNode P below × EachNode P row
 
 -- the place of the first token; a text without tokens begins at the front of its first line
 abbrev pub place_of_first : ℕ → List Token → Place

@@ -20,7 +20,7 @@ pub use expressions::{
     ItemNode, LetNode, LiteralNode, NamedNode, PartNode, PostfixNode, PrimaryNode, UnaryNode,
 };
 pub use first::place_of_first;
-pub use law::trees_are_whole;
+pub use law::{trees_are_typed, trees_are_whole};
 pub use models::{
     AssocEndNode, AssocNode, AttributeNode, ClassNode, CondNode, ConstraintsNode, ContextNode,
     EnumNode, FileNode, HeadNode, InvNode, MultNode, OperNode, ParamNode, ParamsNode, ParentsNode,
