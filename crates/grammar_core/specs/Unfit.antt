@@ -53,6 +53,6 @@ IsFirstOf g None = (p : ℕ) → Unfit g p → ⊥
 IsFirstOf g (Some p) = IsFirstUnfit g p
 
 -- a fault names the first unfit production; want of memory may always come
-abbrev pub IsFaultOf : Table → GrammarFault → Type 0
-IsFaultOf g Memory = Unit {0}
-IsFaultOf g (fault.Unfit p) = IsFirstUnfit g p
+abbrev pub IsGrammarFault : Table → GrammarFault → Type 0
+IsGrammarFault g Memory = Unit {0}
+IsGrammarFault g (fault.Unfit p) = IsFirstUnfit g p

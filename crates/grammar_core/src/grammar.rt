@@ -2,7 +2,7 @@ ghost use Rattle.std.specs.Prelude.{◌≡◌, ◌≤◌, ◌<◌, length, slice
 ghost use Rattle.grammar_core.specs.declared.table.Prod.TheVariants.{Case, Star};
 ghost use Rattle.grammar_core.specs.Derives.{begins, branch_of, kinds};
 ghost use Rattle.grammar_core.specs.Tables.{rule_at, table_of};
-ghost use Rattle.grammar_core.specs.Unfit.{all_inside, IsFaultOf, IsFit};
+ghost use Rattle.grammar_core.specs.Unfit.{all_inside, IsGrammarFault, IsFit};
 
 use crate::choices::{Cells, all_cells, told_choice};
 use crate::fitness::first_unfit;
@@ -47,7 +47,7 @@ impl Grammar {
         requires inside { IsTrue (all_inside (length prods.items) rules.items) }
         ensures ok { IfOk result (λ g. g ≡ table_of prods.items rules.items nests.items) }
         ensures fit { IfOk result (λ g. IsFit g) }
-        ensures err { IfErr result (IsFaultOf (table_of prods.items rules.items nests.items)) }
+        ensures err { IfErr result (IsGrammarFault (table_of prods.items rules.items nests.items)) }
     {
         let table = Table {
             prods: Items::from_vec(prods),

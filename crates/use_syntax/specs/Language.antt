@@ -5,8 +5,9 @@ use Rattle.grammar_core.specs.declared.table.Table.{Table}
 use Rattle.grammar_core.specs.declared.table.Prod.{Prod}
 use Rattle.grammar_core.specs.declared.table.Prod.TheVariants.{Tok, Call}
 use Rattle.grammar_core.specs.Tables.{table_of}
-use Rattle.use_syntax.specs.declared.row.Symbol.TheVariants.{Part}
+use Rattle.use_syntax.specs.declared.row.Symbol.TheVariants.{Production}
 use Rattle.use_syntax.specs.Forms.{Form, place_of, prod_of}
+use Rattle.use_syntax.specs.Numbers.{rule_count, token_count}
 use Rattle.use_syntax.specs.RuleBodies.{rule_bodies}
 use Rattle.use_syntax.specs.TypeForms.{name_forms, type_forms}
 use Rattle.use_syntax.specs.ExpressionForms.{args_forms, arithmetic_forms, collection_forms, comparison_forms, dot_forms, item_forms, logic_forms, named_forms, postfix_forms, primary_forms, unary_forms}
@@ -19,11 +20,11 @@ prods_of forms = map prod_of forms
 
 -- one token of each kind
 unfoldable pub token_prods : List Prod
-token_prods = map Tok (range_with_len 0 96)
+token_prods = map Tok (range_with_len 0 token_count)
 
 -- each rule
 unfoldable pub call_prods : List Prod
-call_prods = map Call (range_with_len 0 63)
+call_prods = map Call (range_with_len 0 rule_count)
 
 unfoldable pub type_prods : List Prod
 type_prods = prods_of name_forms ++ prods_of type_forms
@@ -51,7 +52,7 @@ all_prods = token_prods ++ call_prods ++ type_prods ++ expression_prods ++ state
 
 -- the production of each rule
 unfoldable pub bodies : List ℕ
-bodies = map (λ b. place_of (Part b.0)) rule_bodies
+bodies = map (λ b. place_of (Production b.0)) rule_bodies
 
 -- whether each rule nests
 unfoldable pub nests : List Bool

@@ -1,5 +1,5 @@
 -- What a text is read as: a tree of its tokens, or a refusal.
-use Rattle.std.specs.Prelude.{◌≡◌, ◌<◌, ⊤, ℕ, List, length, Option, Some, None, Result, Ok, Err, slice_get}
+use Rattle.std.specs.Prelude.{◌≡◌, ◌<◌, ⊤, ℕ, List, [], ◌∷◌, length, Option, Some, None, Result, Ok, Err, slice_get}
 use Rattle.use_text.specs.declared.code.Family.TheVariants.{S}
 use Rattle.use_text.specs.declared.place.Place.{Place}
 use Rattle.use_text.specs.declared.refusal.Refusal.{Refusal}
@@ -21,6 +21,13 @@ use Rattle.use_syntax.specs.declared.rule.Rule.TheVariants as r
 use Rattle.use_syntax.specs.Language.{language}
 use Rattle.use_syntax.specs.Numbers.{number_of_rule}
 
+-- the most bytes of a text, and the last line that it may begin in, so that its places can be told
+abbrev pub max_text : ℕ
+max_text = 4194304
+
+abbrev pub max_line : ℕ
+max_line = 4000000000
+
 -- the tokens and their tree, or the refusal
 pub data Reading : Type 0 where
   parsed : List Token → ParseTree → Reading
@@ -33,6 +40,11 @@ place_or (Some t) = t.place
 -- the place of a token, by its number in the list
 abbrev pub place_in : List Token → ℕ → Place
 place_in ts at = place_or (slice_get ts at)
+
+-- the place of the first token; a text without tokens begins at the front of its first line
+abbrev pub place_of_first : ℕ → List Token → Place
+place_of_first line [] = place_at line 1
+place_of_first line (t ∷ ts) = t.place
 
 -- S1 where the tokens are stuck, S2 where they are too deep
 abbrev pub judged : List Token → Verdict → Reading

@@ -1,7 +1,7 @@
 ghost use Rattle.std.specs.Prelude.{◌≡◌, ◌≤◌, All, IfOk, length};
 ghost use Rattle.use_text.specs.Tokens.{IsWithin};
 ghost use Rattle.use_syntax.specs.Language.{language};
-ghost use Rattle.use_syntax.specs.Reading.{read, read_command, read_model, Reads};
+ghost use Rattle.use_syntax.specs.Reading.{max_line, max_text, read, read_command, read_model, Reads};
 ghost use Rattle.use_syntax.specs.Numbers.{number_of_rule};
 
 use crate::{Parsed, Reader, Rule, SyntaxFault, TokenTree};
@@ -18,8 +18,8 @@ fn read(
     first_line: u32,
 ) -> Result<Parsed, SyntaxFault>
     requires table { g.now ≡ language }
-    requires text { length text.now ≤ 4194304 }
-    requires line { first_line ≤ 4000000000 }
+    requires text { length text.now ≤ max_text }
+    requires line { first_line ≤ max_line }
     ensures reading { Reads (read (number_of_rule start) first_line text.now) text.now result }
     ensures within { IfOk result (λ p. All (IsWithin (length p.text)) p.tokens) }
 {
@@ -38,7 +38,7 @@ fn read(
 /// open.
 pub fn read_model(alloc: Global, g: &Grammar, text: &[u8]) -> Result<Parsed, SyntaxFault>
     requires table { g.now ≡ language }
-    requires text { length text.now ≤ 4194304 }
+    requires text { length text.now ≤ max_text }
     ensures reading { Reads (read_model text.now) text.now result }
     ensures within { IfOk result (λ p. All (IsWithin (length p.text)) p.tokens) }
 {
@@ -53,8 +53,8 @@ pub fn read_command(
     first_line: u32,
 ) -> Result<Parsed, SyntaxFault>
     requires table { g.now ≡ language }
-    requires text { length text.now ≤ 4194304 }
-    requires line { first_line ≤ 4000000000 }
+    requires text { length text.now ≤ max_text }
+    requires line { first_line ≤ max_line }
     ensures reading { Reads (read_command first_line text.now) text.now result }
     ensures within { IfOk result (λ p. All (IsWithin (length p.text)) p.tokens) }
 {

@@ -1,7 +1,7 @@
-ghost use Rattle.std.specs.Prelude.{◌≡◌, ◌≤◌, All, IfOk, length};
+ghost use Rattle.std.specs.Prelude.{◌≡◌, ◌+◌, ◌≤◌, All, IfOk, length};
 ghost use Rattle.use_text.specs.Tokens.{IsWithin};
 ghost use Rattle.use_syntax.specs.Language.{language};
-ghost use Rattle.use_syntax.specs.Reading.{place_in, read, read_command, read_model, read_tokens, ReadsTree};
+ghost use Rattle.use_syntax.specs.Reading.{max_line, max_text, place_in, read, read_command, read_model, read_tokens, ReadsTree};
 ghost use Rattle.use_syntax.specs.Numbers.{number_of_rule};
 
 use crate::{Rule, SyntaxFault, TokenTree};
@@ -35,7 +35,7 @@ fn read_tokens(
     tokens: Tokens,
 ) -> Result<TokenTree, SyntaxFault>
     requires table { g.now ≡ language }
-    requires few { length tokens ≤ 4194305 }
+    requires few { length tokens ≤ max_text + 1 }
     ensures reading { ReadsTree (read_tokens (number_of_rule start) tokens) result }
     ensures same { IfOk result (λ p. p.tokens ≡ tokens) }
 {
@@ -71,8 +71,8 @@ impl Reader {
         first_line: u32,
     ) -> Result<TokenTree, SyntaxFault>
         requires table { g.now ≡ language }
-        requires text { length text.now ≤ 4194304 }
-        requires line { first_line ≤ 4000000000 }
+        requires text { length text.now ≤ max_text }
+        requires line { first_line ≤ max_line }
         ensures reading { ReadsTree (read (number_of_rule start) first_line text.now) result }
         ensures within { IfOk result (λ p. All (IsWithin (length text.now)) p.tokens) }
     {
@@ -86,7 +86,7 @@ impl Reader {
     /// Reads the text of a model, as the function `read_model`.
     pub fn read_model(&mut self, g: &Grammar, text: &[u8]) -> Result<TokenTree, SyntaxFault>
         requires table { g.now ≡ language }
-        requires text { length text.now ≤ 4194304 }
+        requires text { length text.now ≤ max_text }
         ensures reading { ReadsTree (read_model text.now) result }
         ensures within { IfOk result (λ p. All (IsWithin (length text.now)) p.tokens) }
     {
@@ -101,8 +101,8 @@ impl Reader {
         first_line: u32,
     ) -> Result<TokenTree, SyntaxFault>
         requires table { g.now ≡ language }
-        requires text { length text.now ≤ 4194304 }
-        requires line { first_line ≤ 4000000000 }
+        requires text { length text.now ≤ max_text }
+        requires line { first_line ≤ max_line }
         ensures reading { ReadsTree (read_command first_line text.now) result }
         ensures within { IfOk result (λ p. All (IsWithin (length text.now)) p.tokens) }
     {

@@ -1,7 +1,7 @@
 ghost use Rattle.std.specs.Prelude.{◌≡◌, ◌+◌, ◌++◌, ◌≤◌, ◌<◌, [], ◌∷◌, length, map, IfOk, IfErr, OnOk};
 ghost use Rattle.grammar_core.specs.declared.fault.GrammarFault.TheVariants.{Memory};
 ghost use Rattle.use_text.specs.Kinds.{number_of};
-ghost use Rattle.use_syntax.specs.declared.row.Symbol.TheVariants.{Part as SymbolPart};
+ghost use Rattle.use_syntax.specs.declared.row.Symbol.TheVariants.{Production as OfProduction};
 ghost use Rattle.use_syntax.specs.Forms.{branch_of, form_of, place_of, prod_of};
 ghost use Rattle.use_syntax.specs.Language.{all_prods, bodies, call_prods, command_prods, expression_prods, language, model_prods, nests, statement_prods, token_prods, type_prods};
 
@@ -13,7 +13,7 @@ use crate::expressions::{
 use crate::models::{
     ASSOC_ROWS, CLASS_ROWS, CONTEXT_ROWS, END_ROWS, FILE_ROWS, HEAD_ROWS, OPER_ROWS,
 };
-use crate::part::Part;
+use crate::production::Production;
 use crate::row::{Row, Symbol};
 use crate::rules::RULES;
 use crate::statements::{BLOCK_ROWS, CHANGE_ROWS, CONTROL_ROWS, STATEMENT_ROWS};
@@ -35,7 +35,7 @@ fn place_of(symbol: Symbol) -> u16
     match symbol {
         Symbol::Token(kind) => kind.number(),
         Symbol::Rule(rule) => TOKENS + rule.number(),
-        Symbol::Part(part) => TOKENS + RULE_COUNT + part.number(),
+        Symbol::Production(production) => TOKENS + RULE_COUNT + production.number(),
     }
 }
 
@@ -104,7 +104,7 @@ fn prod_of(alloc: Global, row: Row) -> Result<Prod, AllocError>
         }
         Row::Optional(kinds, symbol) => Ok(Prod::Case(
             one_branch(alloc, kinds, symbol)?,
-            Some(place_of(Symbol::Part(Part::Nothing))),
+            Some(place_of(Symbol::Production(Production::Nothing))),
         )),
         Row::Repeated(kinds, symbol) => {
             Ok(Prod::Star(kinds_of(alloc, kinds)?, place_of(symbol)))
@@ -213,17 +213,17 @@ fn productions(alloc: Global) -> Result<Vec<Prod>, AllocError>
     Ok(prods)
 }
 
-fn places_of_rules(alloc: Global, rules: &[(Part, bool)]) -> Result<Vec<u16>, AllocError>
-    ensures { IfOk result (λ places. places.items ≡ map (λ b. place_of (SymbolPart b.0)) rules.now) }
+fn places_of_rules(alloc: Global, rules: &[(Production, bool)]) -> Result<Vec<u16>, AllocError>
+    ensures { IfOk result (λ places. places.items ≡ map (λ b. place_of (OfProduction b.0)) rules.now) }
 {
     let mut places = Vec::new(alloc);
-    'rules: for (part, _) in rules {
-        places.push(place_of(Symbol::Part(*part)))?;
+    'rules: for (production, _) in rules {
+        places.push(place_of(Symbol::Production(*production)))?;
     }
     Ok(places)
 }
 
-fn flags_of_rules(alloc: Global, rules: &[(Part, bool)]) -> Result<Vec<bool>, AllocError>
+fn flags_of_rules(alloc: Global, rules: &[(Production, bool)]) -> Result<Vec<bool>, AllocError>
     ensures { IfOk result (λ flags. flags.items ≡ map (λ b. b.1) rules.now) }
 {
     let mut flags = Vec::new(alloc);
