@@ -37,5 +37,6 @@ left stack next = stack ++ option_to_list next
 
 -- one step was done, which counts one, of a task that answers this
 abbrev pub Stepped : Table → List ℕ → Result Done ParseFault → List Task → List Task → List ParseTree → Answer → Type 0
-Stepped g ks (Ok done) old new trees a = (tasks g ks (left new done.next) done.at trees 1 ≡ then_at a (λ at so_far n. tasks g ks old at so_far n)) × AreTasks g (left new done.next)
+Stepped g ks (Ok done) old new trees a = (tasks g ks (left new done.next) done.at trees 1 ≡ then_at a (λ at so_far n. tasks g ks old at so_far n))
+    × AreTasks g (left new done.next)
 Stepped g ks (Err e) old new trees a = Meets (Err e) trees a

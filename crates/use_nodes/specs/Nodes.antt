@@ -1,5 +1,6 @@
 -- Nodes of a tree, by their rules and tokens and by where they stand.
-use Rattle.std.specs.Prelude.{ℕ, ⊤, ◌==◌, ◌&&◌, ◌||◌, Bool, true, false, not, length, if◌then◌else◌, List, [], ◌∷◌, filter, Option, Some, None, is_some, slice_get}
+use Rattle.std.specs.Prelude.{ℕ, ⊤, ◌==◌, ◌&&◌, ◌||◌, Bool, true, false, not, length, if◌then◌else◌, List, [], ◌∷◌, filter, Option, Some, None, is_some}
+use Rattle.std.specs.Prelude.{slice_get}
 use Rattle.grammar_core.specs.Trees.{ParseTree, leaf, node, below, place_of, Row}
 use Rattle.use_text.specs.declared.token.Token.{Token}
 use Rattle.use_text.specs.declared.token.TokenKind.{TokenKind}

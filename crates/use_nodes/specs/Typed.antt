@@ -89,7 +89,8 @@ chain operand operators = each s.Rules (a_rule operand) ∷ each s.Tokens (map s
 abbrev pub facts : Rule → List Fact
 facts r.File = there (after k.Model) a_name ∷ each s.Rules (a_rule r.Enum ++ a_rule r.Class ++ a_rule r.Assoc ++ a_rule r.Constraints) ∷ []
 facts r.Command =
-    maybe (first_of (s.Except k.End)) (a_rule r.Execute ++ a_rule r.Enter ++ a_rule r.Exit ++ a_rule r.Query ++ a_rule r.Check ++ a_rule r.Info ++ a_rule r.View ++ map s.Token (k.Undo ∷ k.Redo ∷ k.Reset ∷ k.Quit ∷ k.Exit ∷ [])) ∷ []
+    maybe (first_of (s.Except k.End)) (a_rule r.Execute ++ a_rule r.Enter ++ a_rule r.Exit ++ a_rule r.Query ++ a_rule r.Check ++ a_rule r.Info
+    ++ a_rule r.View ++ map s.Token (k.Undo ∷ k.Redo ∷ k.Reset ∷ k.Quit ∷ k.Exit ∷ [])) ∷ []
 facts r.Names = each (s.Except k.Comma) a_name ∷ some_of (s.Except k.Comma) ∷ []
 facts r.Type = there (nth 0) (a_name ++ a_kind) ∷ maybe (after k.LeftParen) (a_rule r.Type) ∷ []
 facts r.Item = there (nth 0) (a_rule r.Expr) ∷ maybe (after k.Colon) (a_rule r.Type) ∷ maybe (after k.Equal) (a_rule r.Expr) ∷ []
@@ -101,13 +102,15 @@ facts r.Literal = there (after k.Hash) a_name ∷ []
 facts r.Group = there (after k.LeftParen) (a_rule r.Expr) ∷ []
 facts r.Choice = there (after k.If) (a_rule r.Expr) ∷ there (after k.Then) (a_rule r.Expr) ∷ there (after k.Else) (a_rule r.Expr) ∷ []
 facts r.Primary =
-    there (nth 0) (map s.Token (k.Int ∷ k.Str ∷ k.True ∷ k.False ∷ k.Null ∷ k.Undefined ∷ k.Invalid ∷ []) ++ a_rule r.Literal ++ a_rule r.Collection ++ a_rule r.Named ++ a_rule r.Group ++ a_rule r.Choice) ∷ []
+    there (nth 0) (map s.Token (k.Int ∷ k.Str ∷ k.True ∷ k.False ∷ k.Null ∷ k.Undefined ∷ k.Invalid ∷ []) ++ a_rule r.Literal ++ a_rule r.Collection
+    ++ a_rule r.Named ++ a_rule r.Group ++ a_rule r.Choice) ∷ []
 facts r.Dot = there (after k.Dot) (a_name ++ a_token k.Div ++ a_token k.Mod) ∷ []
 facts r.Arrow = there (after k.Arrow) a_name ∷ []
 facts r.Postfix = there (nth 0) (a_rule r.Primary) ∷ []
 facts r.Bind = there (nth 0) a_name ∷ maybe (after k.Colon) (a_rule r.Type) ∷ there (after k.Equal) (a_rule r.Expr) ∷ []
 facts r.Let = some_of (s.Rule r.Bind) ∷ there (after k.In) (a_rule r.Expr) ∷ []
-facts r.Unary = there (first_of s.Rules) (a_rule r.Unary ++ a_rule r.Let ++ a_rule r.Postfix) ∷ maybe (first_of s.Tokens) (a_token k.Not ++ a_token k.Minus) ∷ []
+facts r.Unary = there (first_of s.Rules) (a_rule r.Unary ++ a_rule r.Let ++ a_rule r.Postfix) ∷ maybe (first_of s.Tokens) (a_token k.Not
+    ++ a_token k.Minus) ∷ []
 facts r.Muls = chain r.Unary (k.Star ∷ k.Div ∷ k.Mod ∷ [])
 facts r.Sums = chain r.Muls (k.Plus ∷ k.Minus ∷ [])
 facts r.Rels = chain r.Sums (k.Less ∷ k.LessEqual ∷ k.Greater ∷ k.GreaterEqual ∷ [])
@@ -130,7 +133,8 @@ facts r.For = there (after k.For) a_name ∷ there (after k.In) (a_rule r.Expr) 
 facts r.While = there (after k.While) (a_rule r.Expr) ∷ there (after k.Do) (a_rule r.Block) ∷ []
 facts r.Assign = there (nth 0) (a_rule r.Expr) ∷ maybe (after k.Assign) (a_rule r.Rhs) ∷ []
 facts r.Stmt =
-    there (nth 0) (a_rule r.Create ++ a_rule r.Set ++ a_rule r.New ++ a_rule r.Destroy ++ a_rule r.Insert ++ a_rule r.Delete ++ a_rule r.Declare ++ a_rule r.Branch ++ a_rule r.For ++ a_rule r.While ++ a_rule r.Assign) ∷ []
+    there (nth 0) (a_rule r.Create ++ a_rule r.Set ++ a_rule r.New ++ a_rule r.Destroy ++ a_rule r.Insert ++ a_rule r.Delete ++ a_rule r.Declare
+    ++ a_rule r.Branch ++ a_rule r.For ++ a_rule r.While ++ a_rule r.Assign) ∷ []
 facts r.Enter = there (nth 1) (a_rule r.Expr) ∷ there (nth 2) a_name ∷ some_of (s.Rule r.Args) ∷ []
 facts r.Exit = []
 facts r.Execute = there (after k.Bang) (a_rule r.Enter ++ a_rule r.Exit ++ a_rule r.Block) ∷ []
@@ -151,8 +155,10 @@ facts r.Class = there (after k.Class) a_name ∷ []
 facts r.Mult = there (nth 0) (a_token k.Int ++ a_token k.Star) ∷ maybe (after k.DoubleDot) (a_token k.Int ++ a_token k.Star) ∷ []
 facts r.AssocEnd = there (nth 0) a_name ∷ some_of (s.Rule r.Mult) ∷ maybe (after k.Role) a_name ∷ []
 facts r.Assoc =
-    there (nth 0) (a_token k.Association ++ a_token k.Aggregation ++ a_token k.Composition) ∷ there (nth 1) a_name ∷ there (after k.Between) (a_rule r.AssocEnd) ∷ there (nth 4) (a_rule r.AssocEnd) ∷ []
-facts r.Context = there (after k.Context) a_name ∷ maybe (after k.Colon) a_name ∷ maybe (after k.DoubleColon) (a_rule r.Head) ∷ either_of (s.Rule r.Inv) (s.Rule r.Cond) ∷ []
+    there (nth 0) (a_token k.Association ++ a_token k.Aggregation ++ a_token k.Composition) ∷ there (nth 1) a_name
+    ∷ there (after k.Between) (a_rule r.AssocEnd) ∷ there (nth 4) (a_rule r.AssocEnd) ∷ []
+facts r.Context = there (after k.Context) a_name ∷ maybe (after k.Colon) a_name ∷ maybe (after k.DoubleColon) (a_rule r.Head)
+    ∷ either_of (s.Rule r.Inv) (s.Rule r.Cond) ∷ []
 facts r.Constraints = []
 
 -- a node of a rule, with the facts on that rule's nodes

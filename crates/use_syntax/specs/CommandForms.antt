@@ -1,6 +1,7 @@
 -- The productions of commands: each rule, and the productions of its parts before it.
 use Rattle.std.specs.Prelude.{List, [], ◌∷◌}
-use Rattle.use_text.specs.declared.token.TokenKind.TheVariants.{Bang, Check, Class, End, Exit, Info, Int, Minus, Model, Openter, Opexit, Question, Quit, Redo, Reset, Undo, View}
+use Rattle.use_text.specs.declared.token.TokenKind.TheVariants.{Bang, Check, Class, End, Exit, Info, Int, Minus, Model, Openter, Opexit, Question, Quit}
+use Rattle.use_text.specs.declared.token.TokenKind.TheVariants.{Redo, Reset, Undo, View}
 use Rattle.use_syntax.specs.declared.rule.Rule.TheVariants as r
 use Rattle.use_syntax.specs.declared.production.Production.TheVariants as p
 use Rattle.use_syntax.specs.declared.row.Symbol.TheVariants.{Token, Rule, Production}
@@ -43,6 +44,14 @@ report_forms =
 abbrev pub command_forms : List Form
 command_forms =
     -- command := [ execute | enter | exit | query | check | info | view | 'undo' | 'redo' | 'reset' | 'quit' | 'exit' ] End
-    (or_else (((Bang ∷ []), Rule r.Execute) ∷ ((Openter ∷ []), Rule r.Enter) ∷ ((Opexit ∷ []), Rule r.Exit) ∷ ((Question ∷ []), Rule r.Query) ∷ ((Check ∷ []), Rule r.Check) ∷ ((Info ∷ []), Rule r.Info) ∷ ((View ∷ []), Rule r.View) ∷ ((Undo ∷ []), Token Undo) ∷ ((Redo ∷ []), Token Redo) ∷ ((Reset ∷ []), Token Reset) ∷ ((Quit ∷ []), Token Quit) ∷ ((Exit ∷ []), Token Exit) ∷ []) (Production p.Nothing)) ∷
+    (or_else (((Bang ∷ []), Rule r.Execute) ∷ ((Openter ∷ []), Rule r.Enter) ∷ ((Opexit ∷ []), Rule r.Exit) ∷ ((Question ∷ []), Rule r.Query) ∷ (
+      (Check
+          ∷ []),
+      Rule r.Check,
+    ) ∷ ((Info ∷ []), Rule r.Info) ∷ ((View ∷ []), Rule r.View) ∷ ((Undo ∷ []), Token Undo) ∷ ((Redo ∷ []), Token Redo) ∷ (
+      (Reset
+          ∷ []),
+      Token Reset,
+    ) ∷ ((Quit ∷ []), Token Quit) ∷ ((Exit ∷ []), Token Exit) ∷ []) (Production p.Nothing)) ∷
     (each (Production p.OptionalCommand ∷ Token End ∷ [])) ∷
     []

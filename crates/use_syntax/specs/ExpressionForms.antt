@@ -1,6 +1,9 @@
 -- The productions of expressions: each rule, and the productions of its parts before it.
 use Rattle.std.specs.Prelude.{List, [], ◌∷◌}
-use Rattle.use_text.specs.declared.token.TokenKind.TheVariants.{And, Arrow, AtPre, Bar, Colon, Comma, Div, Dot, DoubleColon, DoubleDot, Else, Endif, Equal, False, Greater, GreaterEqual, Hash, If, Implies, In, Int, Invalid, LeftBrace, LeftParen, Less, LessEqual, Let, Minus, Mod, Not, NotEqual, Null, Or, Plus, RightBrace, RightParen, Semicolon, Star, Str, Then, True, Undefined, Xor}
+use Rattle.use_text.specs.declared.token.TokenKind.TheVariants.{And, Arrow, AtPre, Bar, Colon, Comma, Div, Dot, DoubleColon, DoubleDot, Else, Endif, Equal}
+use Rattle.use_text.specs.declared.token.TokenKind.TheVariants.{False, Greater, GreaterEqual, Hash, If, Implies, In, Int, Invalid, LeftBrace, LeftParen}
+use Rattle.use_text.specs.declared.token.TokenKind.TheVariants.{Less, LessEqual, Let, Minus, Mod, Not, NotEqual, Null, Or, Plus, RightBrace, RightParen}
+use Rattle.use_text.specs.declared.token.TokenKind.TheVariants.{Semicolon, Star, Str, Then, True, Undefined, Xor}
 use Rattle.use_syntax.specs.declared.rule.Rule.TheVariants as r
 use Rattle.use_syntax.specs.declared.production.Production.TheVariants as p
 use Rattle.use_syntax.specs.declared.row.Symbol.TheVariants.{Token, Rule, Production}
@@ -69,7 +72,9 @@ named_forms =
 abbrev pub primary_forms : List Form
 primary_forms =
     -- primary := INT | STRING | 'true' | 'false' | 'null' | 'Undefined' | 'invalid' | literal | collection | named | group | choice
-    (choice (((Int ∷ []), Token Int) ∷ ((Str ∷ []), Token Str) ∷ ((True ∷ []), Token True) ∷ ((False ∷ []), Token False) ∷ ((Null ∷ []), Token Null) ∷ ((Undefined ∷ []), Token Undefined) ∷ ((Invalid ∷ []), Token Invalid) ∷ ((Hash ∷ []), Rule r.Literal) ∷ (kinds, Rule r.Collection) ∷ (names, Rule r.Named) ∷ ((LeftParen ∷ []), Rule r.Group) ∷ ((If ∷ []), Rule r.Choice) ∷ [])) ∷
+    (choice (((Int ∷ []), Token Int) ∷ ((Str ∷ []), Token Str) ∷ ((True ∷ []), Token True) ∷ ((False ∷ []), Token False) ∷ ((Null ∷ []), Token Null)
+    ∷ ((Undefined ∷ []), Token Undefined) ∷ ((Invalid ∷ []), Token Invalid) ∷ ((Hash ∷ []), Rule r.Literal) ∷ (kinds, Rule r.Collection)
+    ∷ (names, Rule r.Named) ∷ ((LeftParen ∷ []), Rule r.Group) ∷ ((If ∷ []), Rule r.Choice) ∷ [])) ∷
     []
 
 -- members behind a dot
@@ -128,7 +133,8 @@ arithmetic_forms =
 abbrev pub comparison_forms : List Form
 comparison_forms =
     -- rels := sums { ( '<' | '<=' | '>' | '>=' ) sums }
-    (choice (((Less ∷ []), Token Less) ∷ ((LessEqual ∷ []), Token LessEqual) ∷ ((Greater ∷ []), Token Greater) ∷ ((GreaterEqual ∷ []), Token GreaterEqual) ∷ [])) ∷
+    (choice (((Less ∷ []), Token Less) ∷ ((LessEqual ∷ []), Token LessEqual) ∷ ((Greater ∷ []), Token Greater) ∷ ((GreaterEqual ∷ []), Token GreaterEqual)
+    ∷ [])) ∷
     (each (Production p.RelOperator ∷ Rule r.Sums ∷ [])) ∷
     (repeated (Less ∷ LessEqual ∷ Greater ∷ GreaterEqual ∷ []) (Production p.RelStep)) ∷
     (each (Rule r.Sums ∷ Production p.RelSteps ∷ [])) ∷

@@ -10,7 +10,8 @@ use Rattle.use_syntax.specs.Forms.{Form, place_of, prod_of}
 use Rattle.use_syntax.specs.Numbers.{rule_count, token_count}
 use Rattle.use_syntax.specs.RuleBodies.{rule_bodies}
 use Rattle.use_syntax.specs.TypeForms.{name_forms, type_forms}
-use Rattle.use_syntax.specs.ExpressionForms.{args_forms, arithmetic_forms, collection_forms, comparison_forms, dot_forms, item_forms, logic_forms, named_forms, postfix_forms, primary_forms, unary_forms}
+use Rattle.use_syntax.specs.ExpressionForms.{args_forms, arithmetic_forms, collection_forms, comparison_forms, dot_forms, item_forms, logic_forms}
+use Rattle.use_syntax.specs.ExpressionForms.{named_forms, postfix_forms, primary_forms, unary_forms}
 use Rattle.use_syntax.specs.StatementForms.{block_forms, change_forms, control_forms, statement_forms}
 use Rattle.use_syntax.specs.CommandForms.{command_forms, query_forms, report_forms}
 use Rattle.use_syntax.specs.ModelForms.{assoc_forms, class_forms, context_forms, end_forms, file_forms, head_forms, oper_forms}

@@ -1,6 +1,9 @@
 -- The productions of models: each rule, and the productions of its parts before it.
 use Rattle.std.specs.Prelude.{List, [], ◌∷◌}
-use Rattle.use_text.specs.declared.token.TokenKind.TheVariants.{Abstract, Aggregation, Association, Attributes, Begin, Between, Class, Colon, Comma, Composition, Constraints, Context, DoubleColon, DoubleDot, End, EndWord, Enum, Equal, Int, Inv, LeftBrace, LeftBracket, LeftParen, Less, Model, Operations, Ordered, Post, Pre, RightBrace, RightBracket, RightParen, Role, Semicolon, Star}
+use Rattle.use_text.specs.declared.token.TokenKind.TheVariants.{Abstract, Aggregation, Association, Attributes, Begin, Between, Class, Colon, Comma}
+use Rattle.use_text.specs.declared.token.TokenKind.TheVariants.{Composition, Constraints, Context, DoubleColon, DoubleDot, End, EndWord, Enum, Equal, Int}
+use Rattle.use_text.specs.declared.token.TokenKind.TheVariants.{Inv, LeftBrace, LeftBracket, LeftParen, Less, Model, Operations, Ordered, Post, Pre}
+use Rattle.use_text.specs.declared.token.TokenKind.TheVariants.{RightBrace, RightBracket, RightParen, Role, Semicolon, Star}
 use Rattle.use_syntax.specs.declared.rule.Rule.TheVariants as r
 use Rattle.use_syntax.specs.declared.production.Production.TheVariants as p
 use Rattle.use_syntax.specs.declared.row.Symbol.TheVariants.{Token, Rule, Production}
@@ -61,7 +64,8 @@ class_forms =
     (optional (Operations ∷ []) (Production p.OpersPart)) ∷
     (each (Token Constraints ∷ Production p.Invs ∷ [])) ∷
     (optional (Constraints ∷ []) (Production p.InvsPart)) ∷
-    (each (Production p.OptionalAbstract ∷ Token Class ∷ Production p.Name ∷ Production p.OptionalParents ∷ Production p.OptionalAttributes ∷ Production p.OptionalOpers ∷ Production p.OptionalInvs ∷ Token EndWord ∷ [])) ∷
+    (each (Production p.OptionalAbstract ∷ Token Class ∷ Production p.Name ∷ Production p.OptionalParents ∷ Production p.OptionalAttributes
+    ∷ Production p.OptionalOpers ∷ Production p.OptionalInvs ∷ Token EndWord ∷ [])) ∷
     []
 
 -- ends of associations
@@ -79,7 +83,8 @@ end_forms =
     (each (Token Role ∷ Production p.Name ∷ [])) ∷
     (optional (Role ∷ []) (Production p.RoleName)) ∷
     (optional (Ordered ∷ []) (Token Ordered)) ∷
-    (each (Production p.Name ∷ Token LeftBracket ∷ Rule r.Mult ∷ Production p.MoreMults ∷ Token RightBracket ∷ Production p.OptionalRole ∷ Production p.OptionalOrdered ∷ Production p.OptionalSemicolon ∷ [])) ∷
+    (each (Production p.Name ∷ Token LeftBracket ∷ Rule r.Mult ∷ Production p.MoreMults ∷ Token RightBracket ∷ Production p.OptionalRole
+    ∷ Production p.OptionalOrdered ∷ Production p.OptionalSemicolon ∷ [])) ∷
     []
 
 -- associations
@@ -108,7 +113,8 @@ context_forms =
 abbrev pub file_forms : List Form
 file_forms =
     -- file := 'model' NAME { enum | class | assoc | constraints } End
-    (choice (((Enum ∷ []), Rule r.Enum) ∷ ((Abstract ∷ Class ∷ []), Rule r.Class) ∷ ((Association ∷ Aggregation ∷ Composition ∷ []), Rule r.Assoc) ∷ ((Constraints ∷ []), Rule r.Constraints) ∷ [])) ∷
+    (choice (((Enum ∷ []), Rule r.Enum) ∷ ((Abstract ∷ Class ∷ []), Rule r.Class) ∷ ((Association ∷ Aggregation ∷ Composition ∷ []), Rule r.Assoc)
+    ∷ ((Constraints ∷ []), Rule r.Constraints) ∷ [])) ∷
     (repeated (Enum ∷ Abstract ∷ Class ∷ Association ∷ Aggregation ∷ Composition ∷ Constraints ∷ []) (Production p.FileItem)) ∷
     (each (Token Model ∷ Production p.Name ∷ Production p.FileItems ∷ Token End ∷ [])) ∷
     []

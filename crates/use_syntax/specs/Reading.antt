@@ -92,7 +92,8 @@ StandsAtToken ts (deep at) = at < length ts
 
 -- whatever text is read as this rule
 abbrev pub RefusalsStandAtTokens : Rule → Type 0
-RefusalsStandAtTokens start = (first_line : ℕ) (text : List ℕ) (ts : List Token) → tokens first_line text ≡ Ok ts → StandsAtToken ts (verdict language (kinds ts) (number_of_rule start))
+RefusalsStandAtTokens start = (first_line : ℕ) (text : List ℕ) (ts : List Token) → tokens first_line text ≡ Ok ts
+    → StandsAtToken ts (verdict language (kinds ts) (number_of_rule start))
 
 -- what tokens are read as is what the relation of derivations says of them, and it says one thing of them
 pub record SaysOf (start : Rule) (ts : List Token) (given : Reading) : Type 0 where
@@ -103,4 +104,5 @@ pub record SaysOf (start : Rule) (ts : List Token) (given : Reading) : Type 0 wh
 
 -- whatever text is read as this rule
 abbrev pub IsReadAsHeld : Rule → Type 0
-IsReadAsHeld start = (first_line : ℕ) (text : List ℕ) (ts : List Token) → tokens first_line text ≡ Ok ts → SaysOf start ts (read (number_of_rule start) first_line text)
+IsReadAsHeld start = (first_line : ℕ) (text : List ℕ) (ts : List Token) → tokens first_line text ≡ Ok ts
+    → SaysOf start ts (read (number_of_rule start) first_line text)

@@ -1,6 +1,7 @@
 -- The productions of statements: each rule, and the productions of its parts before it.
 use Rattle.std.specs.Prelude.{List, [], ◌∷◌}
-use Rattle.use_text.specs.declared.token.TokenKind.TheVariants.{Assign, Colon, Comma, Create, Declare, Delete, Destroy, Do, Else, EndWord, For, From, If, In, Insert, Into, LeftParen, New, RightParen, Semicolon, SetWord, Then, While}
+use Rattle.use_text.specs.declared.token.TokenKind.TheVariants.{Assign, Colon, Comma, Create, Declare, Delete, Destroy, Do, Else, EndWord, For, From, If}
+use Rattle.use_text.specs.declared.token.TokenKind.TheVariants.{In, Insert, Into, LeftParen, New, RightParen, Semicolon, SetWord, Then, While}
 use Rattle.use_syntax.specs.declared.rule.Rule.TheVariants as r
 use Rattle.use_syntax.specs.declared.production.Production.TheVariants as p
 use Rattle.use_syntax.specs.declared.row.Symbol.TheVariants.{Token, Rule, Production}
@@ -66,5 +67,10 @@ statement_forms =
     (optional (Assign ∷ []) (Production p.NewValue)) ∷
     (each (Rule r.Expr ∷ Production p.OptionalNewValue ∷ [])) ∷
     -- stmt := create | set | new | destroy | insert | delete | declare | branch | for | while | assign
-    (or_else (((Create ∷ []), Rule r.Create) ∷ ((SetWord ∷ []), Rule r.Set) ∷ ((New ∷ []), Rule r.New) ∷ ((Destroy ∷ []), Rule r.Destroy) ∷ ((Insert ∷ []), Rule r.Insert) ∷ ((Delete ∷ []), Rule r.Delete) ∷ ((Declare ∷ []), Rule r.Declare) ∷ ((If ∷ []), Rule r.Branch) ∷ ((For ∷ []), Rule r.For) ∷ ((While ∷ []), Rule r.While) ∷ []) (Rule r.Assign)) ∷
+    (or_else (((Create ∷ []), Rule r.Create) ∷ ((SetWord ∷ []), Rule r.Set) ∷ ((New ∷ []), Rule r.New) ∷ ((Destroy ∷ []), Rule r.Destroy) ∷ (
+      (Insert
+          ∷ []),
+      Rule r.Insert,
+    ) ∷ ((Delete ∷ []), Rule r.Delete) ∷ ((Declare ∷ []), Rule r.Declare) ∷ ((If ∷ []), Rule r.Branch) ∷ ((For ∷ []), Rule r.For)
+    ∷ ((While ∷ []), Rule r.While) ∷ []) (Rule r.Assign)) ∷
     []
