@@ -8,6 +8,7 @@ pub mod Same
 pub mod Star
 pub mod Complete
 pub mod Known
+pub mod Cells
 pub mod Stack
 pub mod Verdicts
 pub mod Nodes

@@ -1,7 +1,7 @@
 -- What marking does to the marks.
 use Rattle.std.proofs.Common.{◌≡◌, ℕ, ◌+◌, ◌<◌, ◌≤◌, List, [], ◌∷◌, length, Option, Some, None, Bool, true, false, cond, slice_get, slice_set, zero, suc, refl, sym, ap, ◌∙◌, arith, subst, inl, inr, ◌⊎◌, ⊎_elim, add-zero, replicate}
 use Rattle.std.proofs.lemmas.List.{length-replicate}
-use Rattle.grammar_core.specs.Paths.{IsIn, next, row_of, Path, is_marked, unmarked, set_mark, mark_all, sweep, IsRow}
+use Rattle.grammar_core.specs.Paths.{IsIn, next, places_of, Path, is_marked, unmarked, set_mark, mark_all, sweep, IsRow}
 
 pub set_outside : (seen : List Bool) (q : ℕ) → length seen ≤ q → seen ≡ set_mark seen q
 set_outside [] q h = refl
@@ -101,7 +101,7 @@ module _ (graph : List (List ℕ)) (p : ℕ) where
   abbrev pub Started : List Bool → Type 0
   Started seen = (q : ℕ) → IsIn q (next graph p) → q < length graph → is_marked seen q ≡ true
 
-  closed_at : (seen : List Bool) (q r : ℕ) (o : Option (List ℕ)) → slice_get graph q ≡ o → sweep seen 0 graph ≡ seen → is_marked seen q ≡ true → IsIn r (row_of o) → r < length seen → is_marked seen r ≡ true
+  closed_at : (seen : List Bool) (q r : ℕ) (o : Option (List ℕ)) → slice_get graph q ≡ o → sweep seen 0 graph ≡ seen → is_marked seen q ≡ true → IsIn r (places_of o) → r < length seen → is_marked seen r ≡ true
   closed_at seen q r None e same m h inside = absurd h
   closed_at seen q r (Some row) e same m h inside =
       let z : 0 + q ≡ q = omega arith in
@@ -114,7 +114,7 @@ module _ (graph : List (List ℕ)) (p : ℕ) where
   row_sound : (seen : List Bool) (i : ℕ) (row : List ℕ) → slice_get graph i ≡ Some row → length seen ≡ length graph → Sound seen → (v : Bool) → is_marked seen i ≡ v → Sound (cond v (mark_all seen row) seen)
   row_sound seen i row e long sound false m q h = sound q h
   row_sound seen i row e long sound true m q h =
-      ⊎_elim (λ old. sound q old) (λ new. Path.then i q (sound i m) (subst (λ (o : Option (List ℕ)). IsIn q (row_of o)) (sym e) new.0) (omega (arith, new.1, long))) (all_only row seen q h)
+      ⊎_elim (λ old. sound q old) (λ new. Path.then i q (sound i m) (subst (λ (o : Option (List ℕ)). IsIn q (places_of o)) (sym e) new.0) (omega (arith, new.1, long))) (all_only row seen q h)
 
   sweep_sound : (rows : List (List ℕ)) (i : ℕ) (seen : List Bool) → ((k : ℕ) → k < length rows → slice_get rows k ≡ slice_get graph (i + k)) → length seen ≡ length graph → Sound seen → Sound (sweep seen i rows)
   sweep_sound [] i seen same long sound = sound
@@ -142,10 +142,10 @@ none_marked (suc n) (suc q) e = none_marked n q e
 
 module _ (graph : List (List ℕ)) (p : ℕ) (row : List ℕ) (at_p : slice_get graph p ≡ Some row) where
   row_next : (q : ℕ) → IsIn q row → IsIn q (next graph p)
-  row_next q i = subst (λ (o : Option (List ℕ)). IsIn q (row_of o)) (sym at_p) i
+  row_next q i = subst (λ (o : Option (List ℕ)). IsIn q (places_of o)) (sym at_p) i
 
   next_row : (q : ℕ) → IsIn q (next graph p) → IsIn q row
-  next_row q i = subst (λ (o : Option (List ℕ)). IsIn q (row_of o)) at_p i
+  next_row q i = subst (λ (o : Option (List ℕ)). IsIn q (places_of o)) at_p i
 
   pub first_sound : Sound graph p (mark_all (replicate (length graph) false) row)
   first_sound q m = ⊎_elim (λ old. absurd (none_marked (length graph) q old)) (λ new. Path.first q (row_next q new.0) (omega (arith, new.1, length-replicate (length graph) false))) (all_only row (replicate (length graph) false) q m)

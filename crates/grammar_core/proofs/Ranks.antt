@@ -7,7 +7,7 @@ use Rattle.grammar_core.specs.declared.table.Rule.{Rule}
 use Rattle.grammar_core.specs.declared.table.Prod.{Prod}
 use Rattle.grammar_core.specs.declared.table.Prod.TheVariants.{Tok, Call, Seq, Case, Star}
 use Rattle.grammar_core.specs.Tables.{rule_from, rule_at, unnested, next_prods, graph_of}
-use Rattle.grammar_core.specs.Paths.{IsIn, next, row_of, Path, is_marked, unmarked, set_mark, mark_all, sweep, IsRow}
+use Rattle.grammar_core.specs.Paths.{IsIn, next, places_of, Path, is_marked, unmarked, set_mark, mark_all, sweep, IsRow}
 use Rattle.grammar_core.specs.Unfit.{Unfit}
 use Rattle.grammar_core.proofs.Marking.{Sound, Started, all_length, sweep_length, sweep_is_sound, sweep_is_started, row_done, first_sound, first_started, first_long}
 use Rattle.grammar_core.proofs.Counting.{marks, rank_falls}
@@ -84,7 +84,7 @@ reach_length graph p = rounds_length (length graph) graph (mark_all (replicate (
 
 reach_row : (graph : List (List ℕ)) (p : ℕ) (row : List ℕ) → slice_get graph p ≡ Some row → IsRow graph p (reach graph p)
 reach_row graph p row e =
-    let n : next graph p ≡ row = ap (λ (o : Option (List ℕ)). row_of o) e in
+    let n : next graph p ≡ row = ap (λ (o : Option (List ℕ)). places_of o) e in
     let start : List Bool = mark_all (replicate (length graph) false) row in
     let long : length start ≡ length graph = first_long graph p row e in
     subst (λ (r : List ℕ). IsRow graph p (rounds (length graph) graph (mark_all (replicate (length graph) false) r))) (sym n)
@@ -109,13 +109,13 @@ module _ (g : Table) where
   graph_at calls p x e = slice_get-map (λ y. next_prods calls g y) g.prods p ∙ ap (λ (o : Option Prod). option_map (λ y. next_prods calls g y) o) e
 
   pub next_at : (calls : Bool) (p : ℕ) (x : Prod) → slice_get g.prods p ≡ Some x → next (graph_of calls g) p ≡ next_prods calls g x
-  next_at calls p x e = ap (λ (o : Option (List ℕ)). row_of o) (graph_at calls p x e)
+  next_at calls p x e = ap (λ (o : Option (List ℕ)). places_of o) (graph_at calls p x e)
 
   -- a step leaves from a production
   pub step_at : (calls : Bool) (p q : ℕ) → IsIn q (next (graph_of calls g) p) → (x : Prod) × (slice_get g.prods p ≡ Some x) × IsIn q (next_prods calls g x)
   step_at calls p q i =
       ⊎_elim (λ some. (some.0, some.2, subst (λ (l : List ℕ). IsIn q l) (next_at calls p some.0 some.2) i))
-      (λ past. absurd (subst (λ (o : Option (List ℕ)). IsIn q (row_of o)) (slice_get-map (λ y. next_prods calls g y) g.prods p ∙ ap (λ (o : Option Prod). option_map (λ y. next_prods calls g y) o) past.1) i))
+      (λ past. absurd (subst (λ (o : Option (List ℕ)). IsIn q (places_of o)) (slice_get-map (λ y. next_prods calls g y) g.prods p ∙ ap (λ (o : Option Prod). option_map (λ y. next_prods calls g y) o) past.1) i))
       (slice_get_cases g.prods p).1
 
   unnested_in : (a : Option ℕ) (b : Option Bool) (q : ℕ) → IsIn q (unnested (rule_from a b)) → (a ≡ Some q) × (b ≡ Some false)

@@ -1,5 +1,6 @@
 -- The stack of tasks: what a step leaves to be done.
-use Rattle.std.proofs.Common.{◌≡◌, ℕ, ◌-◌, ◌<◌, true, List, [], ◌∷◌, ◌++◌, length, reverse, Option, Some, None, slice_get, nat_lt, Err, suc, refl, sym, ap, ◌∙◌, arith, subst, append_assoc, append-nil}
+use Rattle.std.proofs.Common.{◌≡◌, ℕ, ◌-◌, ◌<◌, true, List, [], ◌∷◌, ◌++◌, length, reverse, Option, Some, None, MatchOption, slice_get, nat_lt, Err, suc, refl, sym, ap, ◌∙◌, arith, subst, append_assoc, append-nil}
+use Rattle.std.specs.Bool.{⊤}
 use Rattle.std.proofs.lemmas.List.{reverse-append}
 use Rattle.std.proofs.lemmas.Option.{slice_get_within}
 use Rattle.grammar_core.specs.declared.table.Table.{Table}
@@ -17,7 +18,7 @@ use Rattle.grammar_core.specs.Empty.{MayBeEmpty}
 use Rattle.grammar_core.specs.Unfit.{IsFit}
 use Rattle.grammar_core.specs.Derives.{Outcome, begins, branch_of, max_level, level_in}
 use Rattle.grammar_core.specs.Answers.{Answer, Reading, then_at, in_turn, again, close, of_production, whole, outcome_of, steps_of, Meets}
-use Rattle.grammar_core.specs.Tasks.{task, tasks_from, tasks, reads, IsTask, AreTasks}
+use Rattle.grammar_core.specs.Tasks.{task, tasks_from, tasks, left, reads, IsTask, AreTasks}
 use Rattle.grammar_core.proofs.Fits.{IsBelow, AllBelow, OtherBelow, branch_below, fits, rule_there}
 use Rattle.grammar_core.proofs.Same.{unroll}
 use Rattle.grammar_core.proofs.Complete.{at_level, at_no_level, stop_some}
@@ -147,6 +148,11 @@ fails_all g ks (Deep x) trees stack rest t at done z s same m = sym same ∙ ap 
 pub none_left : (l : List Task) → length l ≡ 0 → l ≡ []
 none_left [] e = refl
 none_left (t ∷ ts) e = absurd (omega arith)
+
+-- what comes next is among what is left
+pub taken : (r : Option Task) (old new : List Task) (next : Option Task) → MatchOption r (left old next ≡ []) (λ t. left old next ≡ new ++ (t ∷ [])) → MatchOption r (new ≡ []) (λ t. ⊤) → (left old next ≡ left new r) × (r ≡ None → new ≡ [])
+taken None old new next h k = (rw k h, λ e. k)
+taken (Some t) old new next h k = (h, λ e. absurd (cc))
 
 -- one step: the outcome stays, and one step less is to come
 pub one_step : (g : Table) (ks : List ℕ) (stack rest new : List Task) (t : Task) (at to : ℕ) (done more : List ParseTree) → stack ≡ rest ++ (t ∷ []) → tasks g ks new to more 1 ≡ then_at (task g ks t at done 0) (λ x l i. tasks g ks rest x l i)

@@ -1,5 +1,6 @@
 -- What a production answers, computed: with the trees that were read before it, and with a count of the steps.
-use Rattle.std.specs.Prelude.{◌≡◌, ℕ, ◌+◌, ◌-◌, ◌*◌, if◌then◌else◌, nat_lt, List, [], ◌∷◌, ◌++◌, length, Option, Some, None, slice_get, zero, suc, Result, Ok, Err}
+use Rattle.std.specs.Prelude.{◌≡◌, ℕ, ◌+◌, ◌-◌, ◌*◌, if◌then◌else◌, nat_lt, List, [], ◌∷◌, ◌++◌, length, Option, Some, None, slice_get, zero, suc, Result}
+use Rattle.std.specs.Prelude.{Ok, Err}
 use Rattle.grammar_core.specs.declared.table.Table.{Table}
 use Rattle.grammar_core.specs.declared.table.Rule.{Rule}
 use Rattle.grammar_core.specs.declared.table.Prod.{Prod}

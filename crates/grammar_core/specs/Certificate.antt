@@ -12,10 +12,12 @@ abbrev pub all_below : List ℕ → ℕ → List ℕ → Bool
 all_below ranks n [] = true
 all_below ranks n (q ∷ qs) = nat_lt (slice_index ranks q) n && all_below ranks n qs
 
--- the production at p: its numbers are in the table, its parts and calls have smaller ranks, the body of a Star is not marked, and it is marked itself where its parts say so
+-- the production at p: its numbers are in the table, its parts and calls have smaller ranks, the body of a Star is not
+-- marked, and it is marked itself where its parts say so
 abbrev pub is_certified : Table → List ℕ → List Bool → ℕ → Prod → Bool
 is_certified g ranks seen p x =
-    not (outside_by g x) && all_below ranks (slice_index ranks p) (next_prods true g x) && not (empty_body_by seen x) && (not (empty_by g.rules seen x) || is_marked seen p)
+    not (outside_by g x) && all_below ranks (slice_index ranks p) (next_prods true g x) && not (empty_body_by seen x) && (not (empty_by g.rules seen x)
+    || is_marked seen p)
 
 -- these productions, the first of which is at p
 abbrev pub are_certified : Table → List ℕ → List Bool → ℕ → List Prod → Bool

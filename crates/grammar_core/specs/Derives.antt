@@ -72,24 +72,30 @@ mutual
   pub data GivesProd (g : Table) (ks : List ℕ) : Prod → ℕ → ℕ → Outcome → Type 0 where
     token : (k level at : ℕ) → next_is ks at k ≡ true → GivesProd g ks (Tok k) level at (Outcome.ends (at + 1) (leaf k at ∷ []))
     no_token : (k level at : ℕ) → next_is ks at k ≡ false → GivesProd g ks (Tok k) level at (Outcome.stuck at)
-    rule : (r : ℕ) (rule : Rule) (level inner at : ℕ) (a : Outcome) → rule_at g r ≡ Some rule → level_in rule level ≡ Some inner → Gives g ks rule.to inner at a → GivesProd g ks (Call r) level at (below_rule r a)
+    rule : (r : ℕ) (rule : Rule) (level inner at : ℕ) (a : Outcome) → rule_at g r ≡ Some rule → level_in rule level ≡ Some inner
+        → Gives g ks rule.to inner at a → GivesProd g ks (Call r) level at (below_rule r a)
     too_deep : (r : ℕ) (rule : Rule) (level at : ℕ) → rule_at g r ≡ Some rule → level_in rule level ≡ None → GivesProd g ks (Call r) level at (Outcome.deep at)
     parts : (ps : List ℕ) (level at : ℕ) (a : Outcome) → GivesAll g ks ps level at a → GivesProd g ks (Seq ps) level at a
-    branch : (bs : List Branch) (other : Option ℕ) (q level at : ℕ) (a : Outcome) → branch_of ks at bs other ≡ Some q → Gives g ks q level at a → GivesProd g ks (Case bs other) level at a
-    no_branch : (bs : List Branch) (other : Option ℕ) (level at : ℕ) → branch_of ks at bs other ≡ None → GivesProd g ks (Case bs other) level at (Outcome.stuck at)
+    branch : (bs : List Branch) (other : Option ℕ) (q level at : ℕ) (a : Outcome) → branch_of ks at bs other ≡ Some q → Gives g ks q level at a
+        → GivesProd g ks (Case bs other) level at a
+    no_branch : (bs : List Branch) (other : Option ℕ) (level at : ℕ) → branch_of ks at bs other ≡ None
+        → GivesProd g ks (Case bs other) level at (Outcome.stuck at)
     times : (firsts : List ℕ) (q level at : ℕ) (a : Outcome) → GivesTimes g ks firsts q level at a → GivesProd g ks (Star firsts q) level at a
 
   -- each production in turn
   pub data GivesAll (g : Table) (ks : List ℕ) : List ℕ → ℕ → ℕ → Outcome → Type 0 where
     all_done : (level at : ℕ) → GivesAll g ks [] level at (Outcome.ends at [])
-    then : (p : ℕ) (ps : List ℕ) (level at to : ℕ) (trees : List ParseTree) (a : Outcome) → Gives g ks p level at (Outcome.ends to trees) → GivesAll g ks ps level to a → GivesAll g ks (p ∷ ps) level at (before trees a)
+    then : (p : ℕ) (ps : List ℕ) (level at to : ℕ) (trees : List ParseTree) (a : Outcome) → Gives g ks p level at (Outcome.ends to trees)
+        → GivesAll g ks ps level to a → GivesAll g ks (p ∷ ps) level at (before trees a)
     stop : (p : ℕ) (ps : List ℕ) (level at : ℕ) (a : Outcome) → Gives g ks p level at a → Stops a → GivesAll g ks (p ∷ ps) level at a
 
   -- a production as often as the next token is of one of these kinds
   pub data GivesTimes (g : Table) (ks : List ℕ) : List ℕ → ℕ → ℕ → ℕ → Outcome → Type 0 where
     no_more : (firsts : List ℕ) (q level at : ℕ) → begins ks at firsts ≡ false → GivesTimes g ks firsts q level at (Outcome.ends at [])
-    once_more : (firsts : List ℕ) (q level at to : ℕ) (trees : List ParseTree) (a : Outcome) → begins ks at firsts ≡ true → Gives g ks q level at (Outcome.ends to trees) → GivesTimes g ks firsts q level to a → GivesTimes g ks firsts q level at (before trees a)
-    stop_in : (firsts : List ℕ) (q level at : ℕ) (a : Outcome) → begins ks at firsts ≡ true → Gives g ks q level at a → Stops a → GivesTimes g ks firsts q level at a
+    once_more : (firsts : List ℕ) (q level at to : ℕ) (trees : List ParseTree) (a : Outcome) → begins ks at firsts ≡ true
+        → Gives g ks q level at (Outcome.ends to trees) → GivesTimes g ks firsts q level to a → GivesTimes g ks firsts q level at (before trees a)
+    stop_in : (firsts : List ℕ) (q level at : ℕ) (a : Outcome) → begins ks at firsts ≡ true → Gives g ks q level at a → Stops a
+        → GivesTimes g ks firsts q level at a
 
 -- the rule r derives the whole list, with this tree
 abbrev pub Derives : Table → List ℕ → ℕ → ParseTree → Type 0

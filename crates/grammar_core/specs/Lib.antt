@@ -5,6 +5,7 @@ pub mod Unfit
 pub mod Checks
 pub mod Trees
 pub mod Derives
+pub mod Choices
 pub mod Arena
 pub mod Answers
 pub mod Tasks

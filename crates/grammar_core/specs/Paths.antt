@@ -5,12 +5,12 @@ abbrev pub IsIn : ℕ → List ℕ → Type 0
 IsIn q [] = ⊥
 IsIn q (x ∷ xs) = (q ≡ x) ⊎ IsIn q xs
 
-abbrev pub row_of : Option (List ℕ) → List ℕ
-row_of None = []
-row_of (Some row) = row
+abbrev pub places_of : Option (List ℕ) → List ℕ
+places_of None = []
+places_of (Some row) = row
 
 abbrev pub next : List (List ℕ) → ℕ → List ℕ
-next graph p = row_of (slice_get graph p)
+next graph p = places_of (slice_get graph p)
 
 -- p leads to a place of the graph
 pub data Path (graph : List (List ℕ)) (p : ℕ) : ℕ → Type 0 where

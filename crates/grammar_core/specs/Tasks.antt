@@ -1,7 +1,8 @@
 -- What is still to be done: a stack of tasks, the next one last.
-use Rattle.std.specs.Prelude.{◌≡◌, ℕ, ◌<◌, List, [], ◌∷◌, length, map, suc, Result, Ok, Err}
+use Rattle.std.specs.Prelude.{◌≡◌, ℕ, ◌<◌, List, [], ◌∷◌, ◌++◌, length, map, suc, Option, option_to_list, Result, Ok, Err}
 use Rattle.grammar_core.specs.declared.table.Table.{Table}
 use Rattle.grammar_core.specs.declared.fault.ParseFault.{ParseFault}
+use Rattle.grammar_core.specs.declared.machine.Done.{Done}
 use Rattle.grammar_core.specs.declared.machine.Task.{Task}
 use Rattle.grammar_core.specs.declared.machine.Task.TheVariants.{Read, Close}
 use Rattle.grammar_core.specs.Trees.{ParseTree}
@@ -30,7 +31,12 @@ abbrev pub AreTasks : Table → List Task → Type 0
 AreTasks g [] = Unit {0}
 AreTasks g (t ∷ ts) = IsTask g t × AreTasks g ts
 
+-- the tasks that are left, with the one that comes next
+abbrev pub left : List Task → Option Task → List Task
+left stack next = stack ++ option_to_list next
+
 -- one step was done, which counts one, of a task that answers this
-abbrev pub Stepped : Table → List ℕ → Result ℕ ParseFault → List Task → List Task → List ParseTree → Answer → Type 0
-Stepped g ks (Ok to) old new trees a = (tasks g ks new to trees 1 ≡ then_at a (λ at done n. tasks g ks old at done n)) × AreTasks g new
+abbrev pub Stepped : Table → List ℕ → Result Done ParseFault → List Task → List Task → List ParseTree → Answer → Type 0
+Stepped g ks (Ok done) old new trees a = (tasks g ks (left new done.next) done.at trees 1 ≡ then_at a (λ at so_far n. tasks g ks old at so_far n))
+    × AreTasks g (left new done.next)
 Stepped g ks (Err e) old new trees a = Meets (Err e) trees a

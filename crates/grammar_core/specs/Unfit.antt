@@ -24,7 +24,8 @@ pub data Unfit (g : Table) (p : ℕ) : Type 0 where
   -- it comes back to itself without a Call
   own_part : Path (graph_of false g) p p → Unfit g p
   -- it is a Call of a rule that does not nest, and that rule's production comes back to itself without a rule that nests
-  own_call : (r q : ℕ) → slice_get g.prods p ≡ Some (Call r) → slice_get g.rules r ≡ Some q → slice_get g.nests r ≡ Some false → Path (graph_of true g) q q → Unfit g p
+  own_call : (r q : ℕ) → slice_get g.prods p ≡ Some (Call r) → slice_get g.rules r ≡ Some q → slice_get g.nests r ≡ Some false → Path (graph_of true g) q q
+      → Unfit g p
 
 -- each entry is a place in a table of this length
 abbrev pub all_inside : ℕ → List ℕ → Bool
@@ -53,6 +54,6 @@ IsFirstOf g None = (p : ℕ) → Unfit g p → ⊥
 IsFirstOf g (Some p) = IsFirstUnfit g p
 
 -- a fault names the first unfit production; want of memory may always come
-abbrev pub IsFaultOf : Table → GrammarFault → Type 0
-IsFaultOf g Memory = Unit {0}
-IsFaultOf g (fault.Unfit p) = IsFirstUnfit g p
+abbrev pub IsGrammarFault : Table → GrammarFault → Type 0
+IsGrammarFault g Memory = Unit {0}
+IsGrammarFault g (fault.Unfit p) = IsFirstUnfit g p

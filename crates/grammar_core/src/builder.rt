@@ -5,6 +5,7 @@ ghost use Rattle.grammar_core.specs.Arena.{closed, read_trees, root_tree};
 use crate::{Node, ParseFault, Tree};
 use std::alloc::Global;
 use std::marker::Model;
+use std::mem;
 
 /// The trees that were read so far, each by its node in `waiting`. The nodes below these stand in
 /// `nodes`, those with one parent side by side.
@@ -75,21 +76,34 @@ impl Builder {
         put(&mut self.waiting, Node::Rule(rule, first, count))
     }
 
-    /// The tree that was read last, as a tree of its own.
-    pub(crate) fn into_tree(self) -> Result<Tree, ParseFault>
-        requires { 0 < length (read_trees self) }
-        ensures { MatchResult result (λ t. slice_get (read_trees self) (length (read_trees self) - 1) ≡ Some (root_tree t)) (λ e. e ≡ ParseFault.Memory) }
+    /// Forgets the trees.
+    pub(crate) fn clear(&mut self)
+        ensures { read_trees self.new ≡ [] }
     {
-        let Builder {
-            mut nodes,
-            mut waiting,
-        } = self;
-        match waiting.pop() {
+        self.nodes.clear();
+        self.waiting.clear();
+    }
+
+    /// The tree that was read last, as a tree of its own. The others are forgotten.
+    pub(crate) fn take_tree(&mut self, alloc: Global) -> Result<Tree, ParseFault>
+        requires { 0 < length (read_trees self.old) }
+        ensures { MatchResult result (λ t. slice_get (read_trees self.old) (length (read_trees self.old) - 1) ≡ Some (root_tree t)) (λ e. e ≡ ParseFault.Memory) }
+    {
+        match self.waiting.pop() {
             Some(root) => {
+                let mut nodes = mem::replace(&mut self.nodes, Vec::new(alloc));
+                self.waiting.clear();
                 put(&mut nodes, root)?;
                 Ok(Tree::from_nodes(nodes))
             }
             None => unreachable!(),
         }
+    }
+
+    /// Keeps the list of a tree for the next one.
+    pub(crate) fn take_back(&mut self, tree: Tree) {
+        self.waiting.clear();
+        self.nodes = tree.into_nodes();
+        self.nodes.clear();
     }
 }

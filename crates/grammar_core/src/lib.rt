@@ -2,6 +2,7 @@
 #![tactic(auto)]
 
 mod builder;
+mod choices;
 mod fault;
 mod fitness;
 mod grammar;
@@ -20,7 +21,7 @@ pub use laws::{
     certified_tables_are_fit, gives_once, holds_once, leaves_are_tokens, verdict_holds,
 };
 pub use node::Node;
-pub use parser::parse;
+pub use parser::{Parser, parse};
 pub use table::{Branch, Prod, Rule, Table};
 pub use tree::{NodeNo, Tree};
 

@@ -1,16 +1,14 @@
-ghost use Rattle.std.specs.Prelude.{◌≡◌, ◌+◌, ◌-◌, ◌<◌, ◌^◌, ◌++◌, [], ◌∷◌, length, reverse, MatchResult, Some, slice_get};
+ghost use Rattle.std.specs.Prelude.{◌≡◌, ◌+◌, ◌-◌, ◌<◌, ◌^◌, ◌++◌, [], ◌∷◌, length, reverse, MatchOption, MatchResult, Some, option_to_list, slice_get, ⊤};
 ghost use Rattle.grammar_core.specs.Answers.{Meets, of_production, whole};
 ghost use Rattle.grammar_core.specs.Arena.{read_trees};
 ghost use Rattle.grammar_core.specs.Derives.{kinds};
-ghost use Rattle.grammar_core.specs.Tables.{rule_at};
 ghost use Rattle.grammar_core.specs.Tasks.{AreTasks, IsTask, Stepped, reads, task};
 ghost use Rattle.grammar_core.specs.Unfit.{IsFit};
 ghost use Rattle.grammar_core.specs.declared.table.Prod.TheVariants.{Call};
 
 use crate::builder::Builder;
-use crate::lookup::{begins, branch_of, level_in, next_is};
-use crate::{ParseFault, Prod, Rule, Table};
-use std::alloc::Global;
+use crate::lookup::{level_in, next_is};
+use crate::{Grammar, ParseFault, Prod};
 use use_text::Token;
 
 /// What is still to be done.
@@ -20,6 +18,21 @@ pub(crate) enum Task {
     Read(u16, u32),
     /// Put the trees from a place on below a rule.
     Close(u16, u64),
+}
+
+/// What a parse works on: the tasks that are left, the next one last, and the trees so far.
+#[derive(Drop)]
+pub(crate) struct Work {
+    pub(crate) stack: Vec<Task>,
+    pub(crate) built: Builder,
+}
+
+/// A step that was done: where it ended, and the task that comes next, unless it is the last one that
+/// is left.
+#[derive(Clone, Copy, Debug, PartialEq, Eq)]
+pub(crate) struct Done {
+    pub(crate) at: u32,
+    pub(crate) next: Option<Task>,
 }
 
 fn put(stack: &mut Vec<Task>, task: Task) -> Result<(), ParseFault>
@@ -42,148 +55,148 @@ fn put_all(stack: &mut Vec<Task>, level: u32, ps: &[u16]) -> Result<(), ParseFau
     Ok(())
 }
 
-fn put_rule(stack: &mut Vec<Task>, r: u16, start: u64, q: u16, level: u32) -> Result<(), ParseFault>
-    ensures { MatchResult result (λ u. stack.new.items ≡ (stack.old.items ++ Task.Close r start ∷ []) ++ Task.Read q level ∷ []) (λ e. e ≡ ParseFault.Memory) }
+/// Leaves the reading of each production in turn. The first one comes next.
+fn put_seq(stack: &mut Vec<Task>, level: u32, ps: &[u16]) -> Result<Option<Task>, ParseFault>
+    ensures { MatchResult result (λ next. stack.new.items ++ option_to_list next ≡ stack.old.items ++ reverse (reads level ps.now)) (λ e. e ≡ ParseFault.Memory) }
 {
-    put(stack, Task::Close(r, start))?;
-    put(stack, Task::Read(q, level))
+    match ps {
+        [] => Ok(None),
+        [first, rest @ ..] => {
+            put_all(stack, level, rest)?;
+            Ok(Some(Task::Read(*first, level)))
+        }
+    }
 }
 
-fn put_star(stack: &mut Vec<Task>, p: u16, q: u16, level: u32) -> Result<(), ParseFault>
-    ensures { MatchResult result (λ u. stack.new.items ≡ (stack.old.items ++ Task.Read p level ∷ []) ++ Task.Read q level ∷ []) (λ e. e ≡ ParseFault.Memory) }
+/// The task that comes next: this one, or the last one that is left.
+fn take_next(stack: &mut Vec<Task>, next: Option<Task>) -> Option<Task>
+    ensures task { MatchOption result (stack.old.items ++ option_to_list next ≡ []) (λ task. stack.old.items ++ option_to_list next ≡ stack.new.items ++ task ∷ []) }
+    ensures none { MatchOption result (stack.new.items ≡ []) (λ task. ⊤) }
 {
-    put(stack, Task::Read(p, level))?;
-    put(stack, Task::Read(q, level))
-}
-
-fn rule_in(g: &Table, r: u16) -> Rule
-    requires rules { r < length g.now.rules }
-    requires nests { r < length g.now.nests }
-    ensures { rule_at g.now r ≡ Some result }
-{
-    let to = g.rules.as_slice()[r as usize];
-    let nests = g.nests.as_slice()[r as usize];
-    Rule { to, nests }
+    match next {
+        Some(task) => Some(task),
+        None => stack.pop(),
+    }
 }
 
 /// Does one production, and leaves its parts to be done.
 fn step_production(
-    g: &Table,
+    g: &Grammar,
     tokens: &[Token],
     x: &Prod,
     p: u16,
     level: u32,
     at: u32,
-    stack: &mut Vec<Task>,
-    built: &mut Builder,
-) -> Result<u32, ParseFault>
+    work: &mut Work,
+) -> Result<Done, ParseFault>
     requires fit { IsFit g.now }
     requires is { slice_get g.now.prods p ≡ Some x.now }
-    requires all { AreTasks g.now stack.old.items }
+    requires all { AreTasks g.now work.old.stack.items }
     requires few { length tokens.now < 2 ^ 32 }
-    ensures { Stepped g.now (kinds tokens.now) result stack.old.items stack.new.items (read_trees built.new) (of_production g.now (kinds tokens.now) (whole g.now (kinds tokens.now)) level (Some x.now) at (read_trees built.old) 1) }
+    ensures { Stepped g.now (kinds tokens.now) result work.old.stack.items work.new.stack.items (read_trees work.new.built) (of_production g.now (kinds tokens.now) (whole g.now (kinds tokens.now)) level (Some x.now) at (read_trees work.old.built) 1) }
 {
     match x {
         Prod::Tok(kind) => {
             if next_is(tokens, at, *kind) {
-                built.push_token(*kind, at)?;
-                Ok(at + 1)
+                work.built.push_token(*kind, at)?;
+                Ok(Done {
+                    at: at + 1,
+                    next: None,
+                })
             } else {
                 Err(ParseFault::Stuck { token: at })
             }
         }
         Prod::Call(r) => {
-            let rule = rule_in(g, *r);
+            let rule = g.rule_in(*r);
             match level_in(rule, level) {
                 Some(inner) => {
-                    put_rule(stack, *r, built.len() as u64, rule.to, inner)?;
-                    Ok(at)
+                    put(&mut work.stack, Task::Close(*r, work.built.len() as u64))?;
+                    Ok(Done {
+                        at,
+                        next: Some(Task::Read(rule.to, inner)),
+                    })
                 }
                 None => Err(ParseFault::Deep { token: at }),
             }
         }
         Prod::Seq(ps) => {
-            put_all(stack, level, ps.as_slice())?;
-            Ok(at)
+            let next = put_seq(&mut work.stack, level, ps.as_slice())?;
+            Ok(Done { at, next })
         }
         Prod::Case(branches, other) => {
-            match branch_of(tokens, at, branches.as_slice(), *other) {
-                Some(q) => {
-                    put(stack, Task::Read(q, level))?;
-                    Ok(at)
-                }
+            match g.branch_at(tokens, at, p, branches.as_slice(), *other) {
+                Some(q) => Ok(Done {
+                    at,
+                    next: Some(Task::Read(q, level)),
+                }),
                 None => Err(ParseFault::Stuck { token: at }),
             }
         }
         Prod::Star(firsts, q) => {
-            if begins(tokens, at, firsts.as_slice()) {
-                put_star(stack, p, *q, level)?;
+            if g.goes_on(tokens, at, p, firsts.as_slice(), *q) {
+                put(&mut work.stack, Task::Read(p, level))?;
+                Ok(Done {
+                    at,
+                    next: Some(Task::Read(*q, level)),
+                })
+            } else {
+                Ok(Done { at, next: None })
             }
-            Ok(at)
         }
     }
 }
 
 fn step(
-    g: &Table,
+    g: &Grammar,
     tokens: &[Token],
     next: Task,
     at: u32,
-    stack: &mut Vec<Task>,
-    built: &mut Builder,
-) -> Result<u32, ParseFault>
+    work: &mut Work,
+) -> Result<Done, ParseFault>
     requires fit { IsFit g.now }
     requires inside { IsTask g.now next }
-    requires all { AreTasks g.now stack.old.items }
+    requires all { AreTasks g.now work.old.stack.items }
     requires few { length tokens.now < 2 ^ 32 }
-    ensures { Stepped g.now (kinds tokens.now) result stack.old.items stack.new.items (read_trees built.new) (task g.now (kinds tokens.now) next at (read_trees built.old) 0) }
+    ensures { Stepped g.now (kinds tokens.now) result work.old.stack.items work.new.stack.items (read_trees work.new.built) (task g.now (kinds tokens.now) next at (read_trees work.old.built) 0) }
 {
     match next {
-        Task::Read(p, level) => {
-            step_production(
-                g,
-                tokens,
-                &g.prods.as_slice()[p as usize],
-                p,
-                level,
-                at,
-                stack,
-                built,
-            )
-        }
+        Task::Read(p, level) => { step_production(g, tokens, g.prod(p), p, level, at, work) }
         Task::Close(rule, start) => {
-            built.close(rule, start)?;
-            Ok(at)
+            work.built.close(rule, start)?;
+            Ok(Done { at, next: None })
         }
     }
 }
 
 /// Reads a rule from the first token on, with a stack of its own, and says where it ends.
 pub(crate) fn run(
-    alloc: Global,
-    g: &Table,
+    g: &Grammar,
     tokens: &[Token],
     start: u16,
-    built: &mut Builder,
+    work: &mut Work,
 ) -> Result<u32, ParseFault>
     requires fit { IsFit g.now }
     requires rule { start < length g.now.rules }
     requires few { length tokens.now < 2 ^ 32 }
-    requires empty { read_trees built.old ≡ [] }
-    ensures { Meets result (read_trees built.new) (of_production g.now (kinds tokens.now) (whole g.now (kinds tokens.now)) 0 (Some (Call start)) 0 [] 0) }
+    requires none { work.old.stack.items ≡ [] }
+    requires empty { read_trees work.old.built ≡ [] }
+    ensures { Meets result (read_trees work.new.built) (of_production g.now (kinds tokens.now) (whole g.now (kinds tokens.now)) 0 (Some (Call start)) 0 [] 0) }
 {
-    let mut stack = Vec::new(alloc);
-    let rule = rule_in(g, start);
-    match level_in(rule, 0) {
-        Some(level) => put_rule(&mut stack, start, 0, rule.to, level)?,
-        None => return Err(ParseFault::Deep { token: 0 }),
-    }
+    let rule = g.rule_in(start);
+    let Some(level) = level_in(rule, 0) else {
+        return Err(ParseFault::Deep { token: 0 });
+    };
+    put(&mut work.stack, Task::Close(start, 0))?;
+    let mut next = Some(Task::Read(rule.to, level));
     let mut at = 0;
-    'steps: while let Some(next) = stack.pop() {
-        match step(g, tokens, next, at, &mut stack, built) {
-            Ok(to) => at = to,
+    'steps: while let Some(task) = next {
+        let done = match step(g, tokens, task, at, work) {
+            Ok(done) => done,
             Err(e) => return Err(e),
-        }
+        };
+        at = done.at;
+        next = take_next(&mut work.stack, done.next);
     }
     Ok(at)
 }

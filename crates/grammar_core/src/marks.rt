@@ -140,7 +140,7 @@ fn all_marked(seen: &[bool], ps: &[u16]) -> bool
     true
 }
 
-fn is_marked_option(seen: &[bool], other: Option<u16>) -> bool
+fn is_other_marked(seen: &[bool], other: Option<u16>) -> bool
     ensures { result ≡ any_marked seen.now (choices [] other) }
 {
     match other {
@@ -157,7 +157,7 @@ fn any_branch_marked(seen: &[bool], branches: &[Branch], other: Option<u16>) -> 
             return true;
         }
     }
-    is_marked_option(seen, other)
+    is_other_marked(seen, other)
 }
 
 fn is_rule_marked(rules: &[u16], seen: &[bool], r: u16) -> bool

@@ -353,3 +353,30 @@ fn a_long_list_is_read_to_its_end(rt: HostRuntime) -> Result<(), Fail> {
     assert_eq!(rt; first_children(rt.alloc(), kinds.as_slice())?, 900_001);
     Ok(())
 }
+
+#[test]
+fn a_parser_reads_one_list_after_another(rt: HostRuntime) -> Result<(), Fail> {
+    let alloc = rt.alloc();
+    let rows: [(&[u16], &str); 4] = [
+        (&[OPEN, NAME, CLOSE, END], "(0 (1 (2 0 (1 (2 1)) 2)) 3)"),
+        (&[OPEN, NAME, END], "no branch allows token 2"),
+        (&[NAME, END], "(0 (1 (2 0)) 1)"),
+        (&[NAME, PLUS, NAME, END], "(0 (1 (2 0) 1 (2 2)) 3)"),
+    ];
+    let Ok(g) = grammar_of(alloc, &SUMS, &[0, 3, 8], &[false, false, true])? else {
+        return Err(Fail::from("unfit"));
+    };
+    let mut parser = Parser::new(alloc);
+    'rows: for (kinds, want) in rows {
+        let tokens = tokens_of(alloc, kinds)?;
+        if tokens.len() > 1000 {
+            return Err(Fail::from("too long"));
+        }
+        let given = parser.parse(&g, 0, tokens.as_slice());
+        assert_eq!(rt; answer_of(alloc, &given)?.as_str(), want);
+        if let Ok(tree) = given {
+            parser.take_back(tree);
+        }
+    }
+    Ok(())
+}

@@ -35,6 +35,10 @@ impl Tree {
         Tree { nodes }
     }
 
+    pub(crate) fn into_nodes(self) -> Vec<Node> {
+        self.nodes
+    }
+
     /// The node that is below no other.
     pub fn root(&self) -> NodeNo
         ensures { result + 1 ≡ length self.now }

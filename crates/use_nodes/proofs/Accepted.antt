@@ -16,12 +16,12 @@ use Rattle.use_nodes.proofs.Required.{Need, nth, after, some_of, is_met, are_met
 use Rattle.use_nodes.proofs.Sure.{Sure, sure, nothing_sure, sure_at, sure_sound, HoldsOf, has_one, has_followed, is_filled, both_of}
 
 -- the sort of tree that a need is for
-abbrev sort_of : Need → ParseTree → Bool
+abbrev pub sort_of : Need → ParseTree → Bool
 sort_of (nth i) t = false
 sort_of (after kind) t = is_token kind t
 sort_of (some_of select) t = selects select t
 
-selects_token : (select : Select) (k at : ℕ) → selects select (leaf k 0) ≡ selects select (leaf k at)
+pub selects_token : (select : Select) (k at : ℕ) → selects select (leaf k 0) ≡ selects select (leaf k at)
 selects_token (s.Rule rule) k at = refl
 selects_token s.Rules k at = refl
 selects_token s.Steps k at = refl
@@ -29,7 +29,7 @@ selects_token (s.Token kind) k at = refl
 selects_token s.Tokens k at = refl
 selects_token (s.Except kind) k at = refl
 
-selects_rule : (select : Select) (n : ℕ) (row : Row) → selects select (node n Row.none) ≡ selects select (node n row)
+pub selects_rule : (select : Select) (n : ℕ) (row : Row) → selects select (node n Row.none) ≡ selects select (node n row)
 selects_rule (s.Rule rule) n row = refl
 selects_rule s.Rules n row = refl
 selects_rule s.Steps n row = refl
@@ -37,18 +37,18 @@ selects_rule (s.Token kind) n row = refl
 selects_rule s.Tokens n row = refl
 selects_rule (s.Except kind) n row = refl
 
-sort_of_token : (need : Need) (k at : ℕ) → sort_of need (leaf k 0) ≡ sort_of need (leaf k at)
+pub sort_of_token : (need : Need) (k at : ℕ) → sort_of need (leaf k 0) ≡ sort_of need (leaf k at)
 sort_of_token (nth i) k at = refl
 sort_of_token (after kind) k at = refl
 sort_of_token (some_of select) k at = selects_token select k at
 
-sort_of_rule : (need : Need) (n : ℕ) (row : Row) → sort_of need (node n Row.none) ≡ sort_of need (node n row)
+pub sort_of_rule : (need : Need) (n : ℕ) (row : Row) → sort_of need (node n Row.none) ≡ sort_of need (node n row)
 sort_of_rule (nth i) n row = refl
 sort_of_rule (after kind) n row = refl
 sort_of_rule (some_of select) n row = selects_rule select n row
 
 -- what is sure meets the need
-abbrev is_enough : Need → Sure → Bool
+abbrev pub is_enough : Need → Sure → Bool
 is_enough (nth i) (sure l h f) = nat_lt i l
 is_enough (after kind) (sure l h f) = f
 is_enough (some_of select) (sure l h f) = h
@@ -70,7 +70,7 @@ some_next kind (t ∷ ts) e = here (is_token kind t) e (some_next kind ts)
     here true h later = first ts h
     here false h later = later h
 
-some_sought : (sort : ParseTree → Bool) (ts : List ParseTree) → has_one sort ts ≡ true → is_some (slice_get (filter sort ts) 0) ≡ true
+pub some_sought : (sort : ParseTree → Bool) (ts : List ParseTree) → has_one sort ts ≡ true → is_some (slice_get (filter sort ts) 0) ≡ true
 some_sought sort [] e = absurd (cc)
 some_sought sort (t ∷ ts) e = here (sort t) e (some_sought sort ts)
   where
@@ -78,13 +78,13 @@ some_sought sort (t ∷ ts) e = here (sort t) e (some_sought sort ts)
     here true h later = refl
     here false h later = later h
 
-enough_met : (need : Need) (given : Sure) (ts : List ParseTree) → HoldsOf (sort_of need) given ts → is_enough need given ≡ true → is_met need ts ≡ true
+pub enough_met : (need : Need) (given : Sure) (ts : List ParseTree) → HoldsOf (sort_of need) given ts → is_enough need given ≡ true → is_met need ts ≡ true
 enough_met (nth i) (sure l h f) ts a e = let low : i < l = ltb-true i l e in let long = a.long in some_within ts i (omega (arith, low, long))
 enough_met (after kind) (sure l h f) ts a e = some_next kind ts (a.followed e)
 enough_met (some_of select) (sure l h f) ts a e = some_sought (selects select) ts (a.one e)
 
 -- of the production of a rule
-abbrev sure_rule : (ParseTree → Bool) → Table → Option ℕ → Sure
+abbrev pub sure_rule : (ParseTree → Bool) → Table → Option ℕ → Sure
 sure_rule sort g None = nothing_sure
 sure_rule sort g (Some p) = sure_at sort g 6 p
 

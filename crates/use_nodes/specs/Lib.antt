@@ -6,3 +6,4 @@ pub mod StatementNodes
 pub mod CommandNodes
 pub mod ModelNodes
 pub mod Whole
+pub mod Typed

@@ -1,14 +1,14 @@
 -- Nodes of a tree, by their rules and tokens and by where they stand.
-use Rattle.std.specs.Prelude.{ℕ, ◌==◌, ◌&&◌, ◌||◌, Bool, true, false, not, length, if◌then◌else◌, List, [], ◌∷◌, filter, Option, Some, None, is_some, slice_get}
-use Rattle.grammar_core.specs.Trees.{ParseTree, leaf, node, below, place_of}
-use Rattle.use_text.specs.declared.place.Place.{Place}
+use Rattle.std.specs.Prelude.{ℕ, ⊤, ◌==◌, ◌&&◌, ◌||◌, Bool, true, false, not, length, if◌then◌else◌, List, [], ◌∷◌, filter, Option, Some, None, is_some}
+use Rattle.std.specs.Prelude.{slice_get}
+use Rattle.grammar_core.specs.Trees.{ParseTree, leaf, node, below, place_of, Row}
 use Rattle.use_text.specs.declared.token.Token.{Token}
 use Rattle.use_text.specs.declared.token.TokenKind.{TokenKind}
 use Rattle.use_text.specs.Kinds.{number_of}
-use Rattle.use_text.specs.Places.{place_at}
 use Rattle.use_syntax.specs.declared.rule.Rule.{Rule}
 use Rattle.use_syntax.specs.declared.rule.Rule.TheVariants as r
 use Rattle.use_syntax.specs.Numbers.{number_of_rule}
+pub use Rattle.use_syntax.specs.Reading.{place_of_first}
 use Rattle.use_nodes.specs.declared.parts.Select.{Select}
 use Rattle.use_nodes.specs.declared.parts.Select.TheVariants as s
 
@@ -90,7 +90,8 @@ token_in ts t = and_then (place_of t) (slice_get ts)
 abbrev pub of : {A : Type 0} → Rule → ParseTree → Option A → Option A
 of rule t parts = if is_rule rule t then parts else None
 
--- the place of the first token; a text without tokens begins at the front of its first line
-abbrev pub place_of_first : ℕ → List Token → Place
-place_of_first line [] = place_at line 1
-place_of_first line (t ∷ ts) = t.place
+-- it holds of each node of a row, and of each below it
+abbrev pub EachNode : (ParseTree → Type 0) → Row → Type 0
+EachNode P Row.none = ⊤
+EachNode P (Row.token k at row) = EachNode P row
+EachNode P (Row.rule r below row) = P (node r below) × EachNode P below × EachNode P row

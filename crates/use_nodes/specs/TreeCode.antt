@@ -50,7 +50,8 @@ pub tree_back : (t : ParseTree) → tree_in (stored_tree t) ≡ t
 tree_back t = here t (row_back (length (stored_tree t)) (onto t Row.none) [] (omega arith))
   where
     here : (t : ParseTree) → row_in (length (stored_tree t)) (stored_tree t ++ []) ≡ (onto t Row.none, []) → tree_in (stored_tree t) ≡ t
-    here t e = ap (λ (l : List ℕ). first_tree (row_in (length (stored_tree t)) l).0) (sym (append-nil (stored_tree t))) ∙ ap (λ (p : Row × List ℕ). first_tree p.0) e ∙ first_onto t
+    here t e = ap (λ (l : List ℕ). first_tree (row_in (length (stored_tree t)) l).0) (sym (append-nil (stored_tree t))) ∙ ap (λ (p : Row
+        × List ℕ). first_tree p.0) e ∙ first_onto t
 
 abbrev pub tree_code : Coded ParseTree
 tree_code = code_by (List ℕ) (coded_list coded_ℕ) stored_tree tree_in tree_back

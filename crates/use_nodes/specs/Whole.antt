@@ -1,16 +1,19 @@
 -- A tree is whole where each of its nodes, at any depth, has the parts that its rule requires.
-use Rattle.std.specs.Prelude.{◌≡◌, ⊤, Bool, true, List, is_some}
+use Rattle.std.specs.Prelude.{◌≡◌, Bool, true, List, is_some}
 use Rattle.use_text.specs.declared.token.Token.{Token}
-use Rattle.grammar_core.specs.Trees.{ParseTree, node, onto, Row}
+use Rattle.grammar_core.specs.Trees.{ParseTree, onto, Row}
 use Rattle.use_syntax.specs.declared.rule.Rule.{Rule}
 use Rattle.use_syntax.specs.declared.rule.Rule.TheVariants as r
 use Rattle.use_syntax.specs.Reading.{Reading, parsed}
-use Rattle.use_nodes.specs.Nodes.{is_rule}
+use Rattle.use_nodes.specs.Nodes.{EachNode, is_rule}
 use Rattle.use_nodes.specs.TypeNodes.{names_node, type_node}
-use Rattle.use_nodes.specs.ExpressionNodes.{args_node, arrow_node, bind_node, chain_node, choice_node, collection_node, dot_node, group_node, item_node, let_node, literal_node, named_node, part_node, postfix_node, primary_node, unary_node}
-use Rattle.use_nodes.specs.StatementNodes.{assign_node, block_node, branch_node, create_node, declare_node, delete_node, destroy_node, for_node, insert_node, new_node, rhs_node, set_node, stmt_node, while_node}
+use Rattle.use_nodes.specs.ExpressionNodes.{args_node, arrow_node, bind_node, chain_node, choice_node, collection_node, dot_node, group_node, item_node}
+use Rattle.use_nodes.specs.ExpressionNodes.{let_node, literal_node, named_node, part_node, postfix_node, primary_node, unary_node}
+use Rattle.use_nodes.specs.StatementNodes.{assign_node, block_node, branch_node, create_node, declare_node, delete_node, destroy_node, for_node}
+use Rattle.use_nodes.specs.StatementNodes.{insert_node, new_node, rhs_node, set_node, stmt_node, while_node}
 use Rattle.use_nodes.specs.CommandNodes.{check_node, command_node, enter_node, execute_node, exit_node, info_node, query_node, view_node}
-use Rattle.use_nodes.specs.ModelNodes.{assoc_end_node, assoc_node, attribute_node, class_node, cond_node, constraints_node, context_node, enum_node, file_node, head_node, inv_node, mult_node, oper_node, param_node, params_node, parents_node}
+use Rattle.use_nodes.specs.ModelNodes.{assoc_end_node, assoc_node, attribute_node, class_node, cond_node, constraints_node, context_node, enum_node}
+use Rattle.use_nodes.specs.ModelNodes.{file_node, head_node, inv_node, mult_node, oper_node, param_node, params_node, parents_node}
 
 -- it is a node of this rule, with each part that the rule requires
 abbrev pub has_parts : Rule → ParseTree → Bool
@@ -84,15 +87,9 @@ pub record HasItsParts (t : ParseTree) : Type 0 where
   pub is : is_rule rule t ≡ true
   pub parts : (rule : Rule) → is_rule rule t ≡ true → has_parts rule t ≡ true
 
--- so is each node of a row, and each below it
-abbrev pub IsWholeRow : Row → Type 0
-IsWholeRow Row.none = ⊤
-IsWholeRow (Row.token k at row) = IsWholeRow row
-IsWholeRow (Row.rule r below row) = HasItsParts (node r below) × IsWholeRow below × IsWholeRow row
-
 -- so is the root of a tree, and each node below it
 abbrev pub IsWhole : ParseTree → Type 0
-IsWhole t = IsWholeRow (onto t Row.none)
+IsWhole t = EachNode HasItsParts (onto t Row.none)
 
 -- the tree of what was read is whole
 abbrev pub ReadIsWhole : Reading → Type 0

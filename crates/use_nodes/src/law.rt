@@ -5,6 +5,7 @@ ghost use Rattle.use_syntax.specs.declared.rule.Rule.{Rule};
 ghost use Rattle.use_syntax.specs.Language.{language};
 ghost use Rattle.use_syntax.specs.Numbers.{number_of_rule};
 ghost use Rattle.use_syntax.specs.Reading.{read_command, read_model};
+ghost use Rattle.use_nodes.specs.Typed.{IsTyped, ReadIsTyped};
 ghost use Rattle.use_nodes.specs.Whole.{IsWhole, ReadIsWhole};
 
 /// A law: no node of a tree that the grammar derives, at any depth, lacks a part that its rule
@@ -13,4 +14,13 @@ pub fn trees_are_whole()
     ensures derived { (ks : List ℕ) (start : Rule) (tree : ParseTree) → Derives language ks (number_of_rule start) tree → IsWhole tree }
     ensures model { (text : List ℕ) → ReadIsWhole (read_model text) }
     ensures command { (first_line : ℕ) (text : List ℕ) → ReadIsWhole (read_command first_line text) }
+{}
+
+/// A law: each node of a tree that the grammar derives, at any depth, has below it what the grammar
+/// gives its rule: the rule or the kind of token of each part, the least lengths of lists, and one
+/// operand more than operators.
+pub fn trees_are_typed()
+    ensures derived { (ks : List ℕ) (start : Rule) (tree : ParseTree) → Derives language ks (number_of_rule start) tree → IsTyped tree }
+    ensures model { (text : List ℕ) → ReadIsTyped (read_model text) }
+    ensures command { (first_line : ℕ) (text : List ℕ) → ReadIsTyped (read_command first_line text) }
 {}

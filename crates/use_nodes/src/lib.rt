@@ -3,7 +3,6 @@
 
 mod commands;
 mod expressions;
-mod first;
 mod law;
 mod models;
 mod node;
@@ -19,8 +18,7 @@ pub use expressions::{
     ArgsNode, ArrowNode, BindNode, ChainNode, ChoiceNode, CollectionNode, DotNode, GroupNode,
     ItemNode, LetNode, LiteralNode, NamedNode, PartNode, PostfixNode, PrimaryNode, UnaryNode,
 };
-pub use first::place_of_first;
-pub use law::trees_are_whole;
+pub use law::{trees_are_typed, trees_are_whole};
 pub use models::{
     AssocEndNode, AssocNode, AttributeNode, ClassNode, CondNode, ConstraintsNode, ContextNode,
     EnumNode, FileNode, HeadNode, InvNode, MultNode, OperNode, ParamNode, ParamsNode, ParentsNode,
@@ -32,6 +30,7 @@ pub use statements::{
     InsertNode, NewNode, RhsNode, SetNode, StmtNode, WhileNode,
 };
 pub use types::{NamesNode, TypeNode};
+pub use use_syntax::place_of_first;
 
 #[cfg(test)]
 mod tests;

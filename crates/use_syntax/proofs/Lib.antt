@@ -1,3 +1,4 @@
+pub mod Appended
 pub mod Ranked
 pub mod Fitness
 pub mod Lengths
@@ -5,3 +6,4 @@ pub mod Judged
 pub mod Ended
 pub mod Plain
 pub mod Standing
+pub mod Held

@@ -6,7 +6,7 @@ use Rattle.std.specs.Option.{option_map}
 use Rattle.grammar_core.specs.declared.table.Table.{Table}
 use Rattle.grammar_core.specs.declared.table.Prod.{Prod}
 use Rattle.grammar_core.specs.declared.table.Prod.TheVariants.{Tok, Call, Seq, Case, Star}
-use Rattle.grammar_core.specs.Paths.{IsIn, Path, next, row_of}
+use Rattle.grammar_core.specs.Paths.{IsIn, Path, next, places_of}
 use Rattle.grammar_core.specs.Tables.{choices, next_prods, graph_of}
 use Rattle.grammar_core.specs.Empty.{MayBeEmpty, IsEmptyProd, AllMayBeEmpty}
 use Rattle.grammar_core.specs.Unfit.{IsOutside, Unfit}
@@ -129,8 +129,8 @@ module _ (g : Table) where
     with_calls false (Star firsts p) q i = i
 
     -- a step of the graph leaves from a production
-    next_row : (calls : Bool) (p : ℕ) (o : Option Prod) → slice_get g.prods p ≡ o → next (graph_of calls g) p ≡ row_of (option_map (λ x. next_prods calls g x) o)
-    next_row calls p o e = ap (λ (l : Option (List ℕ)). row_of l) (slice_get-map (λ x. next_prods calls g x) g.prods p ∙ ap (λ (v : Option Prod). option_map (λ x. next_prods calls g x) v) e)
+    next_row : (calls : Bool) (p : ℕ) (o : Option Prod) → slice_get g.prods p ≡ o → next (graph_of calls g) p ≡ places_of (option_map (λ x. next_prods calls g x) o)
+    next_row calls p o e = ap (λ (l : Option (List ℕ)). places_of l) (slice_get-map (λ x. next_prods calls g x) g.prods p ∙ ap (λ (v : Option Prod). option_map (λ x. next_prods calls g x) v) e)
 
     step_less : (calls : Bool) (p q : ℕ) → IsIn q (next (graph_of calls g) p) → rank q < rank p
     step_less calls p q i = here (slice_get g.prods p) refl

@@ -8,8 +8,8 @@ use Rattle.grammar_core.specs.Parses.{verdict}
 use Rattle.grammar_core.proofs.Verdicts.{computed_holds}
 use Rattle.use_syntax.specs.declared.rule.Rule.{Rule}
 use Rattle.use_syntax.specs.declared.rule.Rule.TheVariants as r
-use Rattle.use_syntax.specs.declared.part.Part.TheVariants as p
-use Rattle.use_syntax.specs.declared.row.Symbol.TheVariants.{Rule as RuleOf, Part}
+use Rattle.use_syntax.specs.declared.production.Production.TheVariants as p
+use Rattle.use_syntax.specs.declared.row.Symbol.TheVariants.{Rule as RuleOf, Production}
 use Rattle.use_syntax.specs.Forms.{place_of}
 use Rattle.use_syntax.specs.Language.{token_prods, call_prods, type_prods, expression_prods, statement_prods, command_prods, model_prods, all_prods, bodies, language}
 use Rattle.use_syntax.specs.Numbers.{number_of_rule}
@@ -20,7 +20,7 @@ use Rattle.use_syntax.proofs.Plain.{are_plain, rule_closes, stuck_inside, deep_i
 
 -- all but the token `End` and the two rules for whole texts
 abbrev plain : ℕ → Bool
-plain n = not ((n == 0) || (n == place_of (RuleOf r.File)) || (n == place_of (RuleOf r.Command)) || (n == place_of (Part p.File)) || (n == place_of (Part p.Command)))
+plain n = not ((n == 0) || (n == place_of (RuleOf r.File)) || (n == place_of (RuleOf r.Command)) || (n == place_of (Production p.File)) || (n == place_of (Production p.Command)))
 
 all_plain : are_plain language plain 0 language.prods ≡ true
 unfolding token_prods call_prods type_prods expression_prods statement_prods command_prods model_prods all_prods bodies language

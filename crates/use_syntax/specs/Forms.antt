@@ -6,11 +6,11 @@ use Rattle.grammar_core.specs.declared.table.Branch.{Branch}
 use Rattle.grammar_core.specs.declared.table.Prod.{Prod}
 use Rattle.grammar_core.specs.declared.table.Prod.TheVariants.{Seq, Case, Star}
 use Rattle.use_syntax.specs.declared.row.Symbol.{Symbol}
-use Rattle.use_syntax.specs.declared.row.Symbol.TheVariants.{Token, Rule, Part}
+use Rattle.use_syntax.specs.declared.row.Symbol.TheVariants.{Token, Rule, Production}
 use Rattle.use_syntax.specs.declared.row.Row.{Row}
 use Rattle.use_syntax.specs.declared.row.Row.TheVariants as row
-use Rattle.use_syntax.specs.declared.part.Part.TheVariants.{Nothing}
-use Rattle.use_syntax.specs.Numbers.{number_of_rule, number_of_part}
+use Rattle.use_syntax.specs.declared.production.Production.TheVariants.{Nothing}
+use Rattle.use_syntax.specs.Numbers.{number_of_rule, number_of_production, rule_count, token_count}
 
 -- a choice is made by the next token: each branch lists the kinds that it begins with
 pub data Form : Type 0 where
@@ -28,8 +28,8 @@ pub data Form : Type 0 where
 -- the table has the tokens by their kinds, then the calls of rules, then the productions with names
 abbrev pub place_of : Symbol → ℕ
 place_of (Token k) = number_of k
-place_of (Rule r) = 96 + number_of_rule r
-place_of (Part p) = 96 + 63 + number_of_part p
+place_of (Rule r) = token_count + number_of_rule r
+place_of (Production p) = token_count + rule_count + number_of_production p
 
 abbrev pub branch_of : List TokenKind → Symbol → Branch
 branch_of kinds s = record { firsts = map number_of kinds; to = place_of s }
@@ -41,7 +41,7 @@ abbrev pub prod_of : Form → Prod
 prod_of (each symbols) = Seq (map place_of symbols)
 prod_of (choice branches) = Case (branches_of branches) None
 prod_of (or_else branches other) = Case (branches_of branches) (Some (place_of other))
-prod_of (optional kinds s) = Case (branch_of kinds s ∷ []) (Some (place_of (Part Nothing)))
+prod_of (optional kinds s) = Case (branch_of kinds s ∷ []) (Some (place_of (Production Nothing)))
 prod_of (repeated kinds s) = Star (map number_of kinds) (place_of s)
 
 -- a row of the program's constants, as a form

@@ -1,9 +1,9 @@
 -- The production of each rule, in the order of the rules, and whether the rule nests.
 use Rattle.std.specs.Prelude.{List, [], ◌∷◌, Bool, true, false}
-use Rattle.use_syntax.specs.declared.part.Part.{Part}
-use Rattle.use_syntax.specs.declared.part.Part.TheVariants as p
+use Rattle.use_syntax.specs.declared.production.Production.{Production}
+use Rattle.use_syntax.specs.declared.production.Production.TheVariants as p
 
-abbrev pub rule_bodies : List (Part × Bool)
+abbrev pub rule_bodies : List (Production × Bool)
 rule_bodies =
     (p.File, false) ∷
     (p.Command, false) ∷

@@ -1,45 +1,58 @@
 use crate::Rule;
 use crate::firsts::NAMES;
-use crate::part::Part;
+use crate::production::Production;
 use crate::row::Row;
 use crate::row::Row::{Choice, Each, Optional, OrElse};
-use crate::row::Symbol::{Part as P, Rule as R, Token as T};
+use crate::row::Symbol::{Production as P, Rule as R, Token as T};
 use use_text::TokenKind::{
     Bang, Check, Class, End, Exit, Info, Int, Minus, Model, Openter, Opexit, Question, Quit, Redo,
     Reset, Undo, View,
 };
 
-/// The productions of commands, those of `Part` in order.
-pub(crate) static COMMAND_PARTS: [Row; 17] = [
+/// The productions of operations, statements, queries and checks, those of `Production` in order.
+pub(crate) static QUERY_ROWS: [Row; 9] = [
     // enter := 'openter' expr NAME args
-    Each(&[T(Openter), R(Rule::Expr), P(Part::Name), R(Rule::Args)]),
+    Each(&[
+        T(Openter),
+        R(Rule::Expr),
+        P(Production::Name),
+        R(Rule::Args),
+    ]),
     // exit := 'opexit' [ expr ]
-    Each(&[T(Opexit), P(Part::OptionalExpr)]),
+    Each(&[T(Opexit), P(Production::OptionalExpr)]),
     // execute := '!' ( enter | exit | block )
     OrElse(
         &[(&[Openter], R(Rule::Enter)), (&[Opexit], R(Rule::Exit))],
         R(Rule::Block),
     ),
-    Each(&[T(Bang), P(Part::Executed)]),
+    Each(&[T(Bang), P(Production::Executed)]),
     // query := '?' [ '?' ] expr
     Optional(&[Question], T(Question)),
-    Each(&[T(Question), P(Part::OptionalQuestion), R(Rule::Expr)]),
+    Each(&[T(Question), P(Production::OptionalQuestion), R(Rule::Expr)]),
     // check := 'check' [ '-' NAME ]
-    Each(&[T(Minus), P(Part::Name)]),
-    Optional(&[Minus], P(Part::Option)),
-    Each(&[T(Check), P(Part::OptionalOption)]),
+    Each(&[T(Minus), P(Production::Name)]),
+    Optional(&[Minus], P(Production::Option)),
+    Each(&[T(Check), P(Production::OptionalOption)]),
+];
+
+/// The productions of reports, those of `Production` in order.
+pub(crate) static REPORT_ROWS: [Row; 6] = [
     // info := 'info' ( 'class' NAME | 'model' | NAME )
-    Each(&[T(Class), P(Part::Name)]),
+    Each(&[T(Class), P(Production::Name)]),
     Choice(&[
-        (&[Class], P(Part::ClassName)),
+        (&[Class], P(Production::ClassName)),
         (&[Model], T(Model)),
-        (NAMES, P(Part::Name)),
+        (NAMES, P(Production::Name)),
     ]),
-    Each(&[T(Info), P(Part::Subject)]),
+    Each(&[T(Info), P(Production::Subject)]),
     // view := 'view' ( INT | NAME INT )
-    Each(&[P(Part::Name), T(Int)]),
-    Choice(&[(&[Int], T(Int)), (NAMES, P(Part::NamedView))]),
-    Each(&[T(View), P(Part::Viewed)]),
+    Each(&[P(Production::Name), T(Int)]),
+    Choice(&[(&[Int], T(Int)), (NAMES, P(Production::NamedView))]),
+    Each(&[T(View), P(Production::Viewed)]),
+];
+
+/// The productions of any command, those of `Production` in order.
+pub(crate) static COMMAND_ROWS: [Row; 2] = [
     // command := [ execute | enter | exit | query | check | info | view | 'undo' | 'redo' | 'reset' | 'quit' | 'exit' ] End
     OrElse(
         &[
@@ -56,7 +69,7 @@ pub(crate) static COMMAND_PARTS: [Row; 17] = [
             (&[Quit], T(Quit)),
             (&[Exit], T(Exit)),
         ],
-        P(Part::Nothing),
+        P(Production::Nothing),
     ),
-    Each(&[P(Part::OptionalCommand), T(End)]),
+    Each(&[P(Production::OptionalCommand), T(End)]),
 ];

@@ -9,3 +9,11 @@ pub struct Parsed {
     pub tokens: Tokens,
     pub text: Bytes,
 }
+
+/// A text that was read, without the text: its tree, and its tokens, which the tree's leaves name by
+/// their places.
+#[derive(Debug, Drop)]
+pub struct TokenTree {
+    pub tree: Tree,
+    pub tokens: Tokens,
+}

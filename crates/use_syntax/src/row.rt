@@ -1,5 +1,5 @@
 use crate::Rule;
-use crate::part::Part;
+use crate::production::Production;
 use use_text::TokenKind;
 
 /// What a production names: a token of a kind, a rule, or a production with a name.
@@ -7,7 +7,7 @@ use use_text::TokenKind;
 pub(crate) enum Symbol {
     Token(TokenKind),
     Rule(Rule),
-    Part(Part),
+    Production(Production),
 }
 
 /// A production, in constants. A choice is made by the next token: each branch lists the kinds that

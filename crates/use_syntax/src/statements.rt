@@ -1,36 +1,40 @@
 use crate::Rule;
 use crate::firsts::{EXPRESSIONS, STATEMENTS};
-use crate::part::Part;
+use crate::production::Production;
 use crate::row::Row;
 use crate::row::Row::{Each, Optional, OrElse, Repeated};
-use crate::row::Symbol::{Part as P, Rule as R, Token as T};
+use crate::row::Symbol::{Production as P, Rule as R, Token as T};
 use use_text::TokenKind::{
     Assign, Colon, Comma, Create, Declare, Delete, Destroy, Do, Else, EndWord, For, From, If, In,
     Insert, Into, LeftParen, New, RightParen, Semicolon, SetWord, Then, While,
 };
 
-/// The productions of statements, those of `Part` in order.
-pub(crate) static STATEMENT_PARTS: [Row; 28] = [
+/// The productions of blocks and of new objects, those of `Production` in order.
+pub(crate) static BLOCK_ROWS: [Row; 9] = [
     // block := [ stmt ] { ';' [ stmt ] }
     Optional(STATEMENTS, R(Rule::Stmt)),
-    Each(&[T(Semicolon), P(Part::OptionalStmt)]),
-    Repeated(&[Semicolon], P(Part::MoreStmt)),
-    Each(&[P(Part::OptionalStmt), P(Part::MoreStmts)]),
+    Each(&[T(Semicolon), P(Production::OptionalStmt)]),
+    Repeated(&[Semicolon], P(Production::MoreStmt)),
+    Each(&[P(Production::OptionalStmt), P(Production::MoreStmts)]),
     // new := 'new' NAME [ '(' [ expr ] ')' ]
     Optional(EXPRESSIONS, R(Rule::Expr)),
-    Each(&[T(LeftParen), P(Part::OptionalExpr), T(RightParen)]),
-    Optional(&[LeftParen], P(Part::NewName)),
-    Each(&[T(New), P(Part::Name), P(Part::OptionalNewName)]),
+    Each(&[T(LeftParen), P(Production::OptionalExpr), T(RightParen)]),
+    Optional(&[LeftParen], P(Production::NewName)),
+    Each(&[T(New), P(Production::Name), P(Production::OptionalNewName)]),
     // rhs := new | expr
     OrElse(&[(&[New], R(Rule::New))], R(Rule::Expr)),
+];
+
+/// The productions of changes of a state, those of `Production` in order.
+pub(crate) static CHANGE_ROWS: [Row; 9] = [
     // create := 'create' names ':' NAME
-    Each(&[T(Create), R(Rule::Names), T(Colon), P(Part::Name)]),
+    Each(&[T(Create), R(Rule::Names), T(Colon), P(Production::Name)]),
     // set := 'set' expr ':=' rhs
     Each(&[T(SetWord), R(Rule::Expr), T(Assign), R(Rule::Rhs)]),
     // destroy := 'destroy' expr { ',' expr }
     Each(&[T(Comma), R(Rule::Expr)]),
-    Repeated(&[Comma], P(Part::MoreExpr)),
-    Each(&[T(Destroy), R(Rule::Expr), P(Part::MoreExprs)]),
+    Repeated(&[Comma], P(Production::MoreExpr)),
+    Each(&[T(Destroy), R(Rule::Expr), P(Production::MoreExprs)]),
     // insert := 'insert' '(' expr ',' expr ')' 'into' NAME
     Each(&[
         T(LeftParen),
@@ -39,37 +43,45 @@ pub(crate) static STATEMENT_PARTS: [Row; 28] = [
         R(Rule::Expr),
         T(RightParen),
     ]),
-    Each(&[T(Insert), P(Part::Pair), T(Into), P(Part::Name)]),
+    Each(&[T(Insert), P(Production::Pair), T(Into), P(Production::Name)]),
     // delete := 'delete' '(' expr ',' expr ')' 'from' NAME
-    Each(&[T(Delete), P(Part::Pair), T(From), P(Part::Name)]),
+    Each(&[T(Delete), P(Production::Pair), T(From), P(Production::Name)]),
     // declare := 'declare' names ':' type
-    Each(&[T(Declare), R(Rule::Names), P(Part::TypeMark)]),
+    Each(&[T(Declare), R(Rule::Names), P(Production::TypeMark)]),
+];
+
+/// The productions of branches and loops, those of `Production` in order.
+pub(crate) static CONTROL_ROWS: [Row; 6] = [
     // branch := 'if' expr 'then' block [ 'else' block ] 'end'
     Each(&[T(Else), R(Rule::Block)]),
-    Optional(&[Else], P(Part::ElseBlock)),
+    Optional(&[Else], P(Production::ElseBlock)),
     Each(&[
         T(If),
         R(Rule::Expr),
         T(Then),
         R(Rule::Block),
-        P(Part::OptionalElse),
+        P(Production::OptionalElse),
         T(EndWord),
     ]),
     // for := 'for' NAME 'in' expr 'do' block 'end'
     Each(&[T(Do), R(Rule::Block), T(EndWord)]),
     Each(&[
         T(For),
-        P(Part::Name),
+        P(Production::Name),
         T(In),
         R(Rule::Expr),
-        P(Part::LoopBody),
+        P(Production::LoopBody),
     ]),
     // while := 'while' expr 'do' block 'end'
-    Each(&[T(While), R(Rule::Expr), P(Part::LoopBody)]),
+    Each(&[T(While), R(Rule::Expr), P(Production::LoopBody)]),
+];
+
+/// The productions of assignments, and of any statement, those of `Production` in order.
+pub(crate) static STATEMENT_ROWS: [Row; 4] = [
     // assign := expr [ ':=' rhs ]
     Each(&[T(Assign), R(Rule::Rhs)]),
-    Optional(&[Assign], P(Part::NewValue)),
-    Each(&[R(Rule::Expr), P(Part::OptionalNewValue)]),
+    Optional(&[Assign], P(Production::NewValue)),
+    Each(&[R(Rule::Expr), P(Production::OptionalNewValue)]),
     // stmt := create | set | new | destroy | insert | delete | declare | branch | for | while | assign
     OrElse(
         &[

@@ -1,18 +1,23 @@
 ghost use Rattle.std.specs.Prelude.{◌≡◌, ◌+◌, ◌++◌, ◌≤◌, ◌<◌, [], ◌∷◌, length, map, IfOk, IfErr, OnOk};
 ghost use Rattle.grammar_core.specs.declared.fault.GrammarFault.TheVariants.{Memory};
 ghost use Rattle.use_text.specs.Kinds.{number_of};
-ghost use Rattle.use_syntax.specs.declared.row.Symbol.TheVariants.{Part as SymbolPart};
+ghost use Rattle.use_syntax.specs.declared.row.Symbol.TheVariants.{Production as OfProduction};
 ghost use Rattle.use_syntax.specs.Forms.{branch_of, form_of, place_of, prod_of};
 ghost use Rattle.use_syntax.specs.Language.{all_prods, bodies, call_prods, command_prods, expression_prods, language, model_prods, nests, statement_prods, token_prods, type_prods};
 
-use crate::commands::COMMAND_PARTS;
-use crate::expressions::EXPRESSION_PARTS;
-use crate::models::MODEL_PARTS;
-use crate::part::Part;
+use crate::commands::{COMMAND_ROWS, QUERY_ROWS, REPORT_ROWS};
+use crate::expressions::{
+    ARGS_ROWS, ARITHMETIC_ROWS, COLLECTION_ROWS, COMPARISON_ROWS, DOT_ROWS, ITEM_ROWS, LOGIC_ROWS,
+    NAMED_ROWS, POSTFIX_ROWS, PRIMARY_ROWS, UNARY_ROWS,
+};
+use crate::models::{
+    ASSOC_ROWS, CLASS_ROWS, CONTEXT_ROWS, END_ROWS, FILE_ROWS, HEAD_ROWS, OPER_ROWS,
+};
+use crate::production::Production;
 use crate::row::{Row, Symbol};
 use crate::rules::RULES;
-use crate::statements::STATEMENT_PARTS;
-use crate::types::TYPE_PARTS;
+use crate::statements::{BLOCK_ROWS, CHANGE_ROWS, CONTROL_ROWS, STATEMENT_ROWS};
+use crate::types::{NAME_ROWS, TYPE_ROWS};
 use grammar_core::{Branch, Grammar, GrammarFault, Prod};
 use std::alloc::{AllocError, Global};
 use use_lists::Items;
@@ -30,7 +35,7 @@ fn place_of(symbol: Symbol) -> u16
     match symbol {
         Symbol::Token(kind) => kind.number(),
         Symbol::Rule(rule) => TOKENS + rule.number(),
-        Symbol::Part(part) => TOKENS + RULE_COUNT + part.number(),
+        Symbol::Production(production) => TOKENS + RULE_COUNT + production.number(),
     }
 }
 
@@ -99,7 +104,7 @@ fn prod_of(alloc: Global, row: Row) -> Result<Prod, AllocError>
         }
         Row::Optional(kinds, symbol) => Ok(Prod::Case(
             one_branch(alloc, kinds, symbol)?,
-            Some(place_of(Symbol::Part(Part::Nothing))),
+            Some(place_of(Symbol::Production(Production::Nothing))),
         )),
         Row::Repeated(kinds, symbol) => {
             Ok(Prod::Star(kinds_of(alloc, kinds)?, place_of(symbol)))
@@ -139,31 +144,58 @@ fn push_calls(prods: &mut Vec<Prod>) -> Result<(), AllocError>
 fn push_types(alloc: Global, prods: &mut Vec<Prod>) -> Result<(), AllocError>
     ensures { OnOk result (prods.new.items ≡ prods.old.items ++ type_prods) }
 {
-    push_rows(alloc, &TYPE_PARTS, prods)
+    push_rows(alloc, &NAME_ROWS, prods)?;
+    push_rows(alloc, &TYPE_ROWS, prods)?;
+    Ok(())
 }
 
 fn push_expressions(alloc: Global, prods: &mut Vec<Prod>) -> Result<(), AllocError>
     ensures { OnOk result (prods.new.items ≡ prods.old.items ++ expression_prods) }
 {
-    push_rows(alloc, &EXPRESSION_PARTS, prods)
+    push_rows(alloc, &ITEM_ROWS, prods)?;
+    push_rows(alloc, &ARGS_ROWS, prods)?;
+    push_rows(alloc, &COLLECTION_ROWS, prods)?;
+    push_rows(alloc, &NAMED_ROWS, prods)?;
+    push_rows(alloc, &PRIMARY_ROWS, prods)?;
+    push_rows(alloc, &DOT_ROWS, prods)?;
+    push_rows(alloc, &POSTFIX_ROWS, prods)?;
+    push_rows(alloc, &UNARY_ROWS, prods)?;
+    push_rows(alloc, &ARITHMETIC_ROWS, prods)?;
+    push_rows(alloc, &COMPARISON_ROWS, prods)?;
+    push_rows(alloc, &LOGIC_ROWS, prods)?;
+    Ok(())
 }
 
 fn push_statements(alloc: Global, prods: &mut Vec<Prod>) -> Result<(), AllocError>
     ensures { OnOk result (prods.new.items ≡ prods.old.items ++ statement_prods) }
 {
-    push_rows(alloc, &STATEMENT_PARTS, prods)
+    push_rows(alloc, &BLOCK_ROWS, prods)?;
+    push_rows(alloc, &CHANGE_ROWS, prods)?;
+    push_rows(alloc, &CONTROL_ROWS, prods)?;
+    push_rows(alloc, &STATEMENT_ROWS, prods)?;
+    Ok(())
 }
 
 fn push_commands(alloc: Global, prods: &mut Vec<Prod>) -> Result<(), AllocError>
     ensures { OnOk result (prods.new.items ≡ prods.old.items ++ command_prods) }
 {
-    push_rows(alloc, &COMMAND_PARTS, prods)
+    push_rows(alloc, &QUERY_ROWS, prods)?;
+    push_rows(alloc, &REPORT_ROWS, prods)?;
+    push_rows(alloc, &COMMAND_ROWS, prods)?;
+    Ok(())
 }
 
 fn push_models(alloc: Global, prods: &mut Vec<Prod>) -> Result<(), AllocError>
     ensures { OnOk result (prods.new.items ≡ prods.old.items ++ model_prods) }
 {
-    push_rows(alloc, &MODEL_PARTS, prods)
+    push_rows(alloc, &HEAD_ROWS, prods)?;
+    push_rows(alloc, &OPER_ROWS, prods)?;
+    push_rows(alloc, &CLASS_ROWS, prods)?;
+    push_rows(alloc, &END_ROWS, prods)?;
+    push_rows(alloc, &ASSOC_ROWS, prods)?;
+    push_rows(alloc, &CONTEXT_ROWS, prods)?;
+    push_rows(alloc, &FILE_ROWS, prods)?;
+    Ok(())
 }
 
 /// All the productions: tokens, calls of rules, and those with names.
@@ -181,17 +213,17 @@ fn productions(alloc: Global) -> Result<Vec<Prod>, AllocError>
     Ok(prods)
 }
 
-fn places_of_rules(alloc: Global, rules: &[(Part, bool)]) -> Result<Vec<u16>, AllocError>
-    ensures { IfOk result (λ places. places.items ≡ map (λ b. place_of (SymbolPart b.0)) rules.now) }
+fn places_of_rules(alloc: Global, rules: &[(Production, bool)]) -> Result<Vec<u16>, AllocError>
+    ensures { IfOk result (λ places. places.items ≡ map (λ b. place_of (OfProduction b.0)) rules.now) }
 {
     let mut places = Vec::new(alloc);
-    'rules: for (part, _) in rules {
-        places.push(place_of(Symbol::Part(*part)))?;
+    'rules: for (production, _) in rules {
+        places.push(place_of(Symbol::Production(*production)))?;
     }
     Ok(places)
 }
 
-fn flags_of_rules(alloc: Global, rules: &[(Part, bool)]) -> Result<Vec<bool>, AllocError>
+fn flags_of_rules(alloc: Global, rules: &[(Production, bool)]) -> Result<Vec<bool>, AllocError>
     ensures { IfOk result (λ flags. flags.items ≡ map (λ b. b.1) rules.now) }
 {
     let mut flags = Vec::new(alloc);
@@ -215,22 +247,13 @@ fn rule_nests(alloc: Global) -> Result<Vec<bool>, AllocError>
     flags_of_rules(alloc, &RULES)
 }
 
-/// The grammar of the language.
+/// The grammar of the language. It is not tested: that no production is unfit is known.
 pub fn grammar(alloc: Global) -> Result<Grammar, GrammarFault>
     ensures ok { IfOk result (λ g. g ≡ language) }
     ensures err { IfErr result (λ e. e ≡ Memory) }
 {
-    let prods = match productions(alloc) {
-        Ok(prods) => prods,
-        Err(_) => return Err(GrammarFault::Memory),
-    };
-    let places = match rule_places(alloc) {
-        Ok(places) => places,
-        Err(_) => return Err(GrammarFault::Memory),
-    };
-    let flags = match rule_nests(alloc) {
-        Ok(flags) => flags,
-        Err(_) => return Err(GrammarFault::Memory),
-    };
-    Grammar::new(alloc, prods, places, flags)
+    let prods = productions(alloc)?;
+    let places = rule_places(alloc)?;
+    let nests = rule_nests(alloc)?;
+    Ok(Grammar::of_fit(alloc, prods, places, nests)?)
 }

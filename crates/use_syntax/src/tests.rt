@@ -412,3 +412,45 @@ fn nesting_is_limited(rt: HostRuntime) -> Result<(), Fail> {
     assert_eq!(rt; first_other_nested(rt.alloc(), &rows)?, None);
     Ok(())
 }
+
+// Whether a reader that has read other texts reads a command as `read_command` does.
+fn reads_alike(
+    alloc: Global,
+    g: &Grammar,
+    reader: &mut Reader,
+    text: &str,
+) -> Result<bool, AllocError>
+    requires { g.now ≡ language }
+{
+    if text.len() > 4_194_304 {
+        return Ok(false);
+    }
+    match (
+        read_command(alloc, g, text.as_bytes(), 1),
+        reader.read_command(g, text.as_bytes(), 1),
+    ) {
+        (Ok(parsed), Ok(read)) => {
+            let trees = format!(in alloc; "{:?}", parsed.tree)?
+                == format!(in alloc; "{:?}", read.tree)?;
+            let tokens = parsed.tokens == read.tokens;
+            reader.take_back(read);
+            Ok(trees && tokens)
+        }
+        (Err(one), Err(other)) => Ok(one == other),
+        _ => Ok(false),
+    }
+}
+
+#[test]
+fn a_reader_reads_one_text_after_another(rt: HostRuntime) -> Result<(), Fail> {
+    let g = grammar(rt.alloc())?;
+    let mut reader = Reader::new(rt.alloc());
+    'rows: for (text, _) in TREES {
+        assert!(rt; reads_alike(rt.alloc(), &g, &mut reader, text)?, "{text}");
+    }
+    'refused: for (text, _) in REFUSED_COMMANDS {
+        assert!(rt; reads_alike(rt.alloc(), &g, &mut reader, text)?, "{text}");
+    }
+    assert!(rt; reader.read_model(&g, EMPLOYEES.as_bytes()).is_ok());
+    Ok(())
+}

@@ -1,16 +1,16 @@
 use crate::Rule;
 use crate::firsts::{KINDS, NAMES};
-use crate::part::Part;
+use crate::production::Production;
 use crate::row::Row;
 use crate::row::Row::{Choice, Each, Optional, Repeated};
-use crate::row::Symbol::{Part as P, Rule as R, Token as T};
+use crate::row::Symbol::{Production as P, Rule as R, Token as T};
 use use_text::TokenKind::{
     Bag, Check, Colon, Comma, Create, Exit, Info, LeftParen, Name, Open, Openter, Opexit,
     OrderedSet, Quit, Redo, Reset, RightParen, Sequence, Set, SetWord, Undo, View,
 };
 
-/// The productions of names and types, those of `Part` in order.
-pub(crate) static TYPE_PARTS: [Row; 10] = [
+/// The productions of names, those of `Production` in order.
+pub(crate) static NAME_ROWS: [Row; 5] = [
     // nothing at all
     Each(&[]),
     // NAME: a name or a command word
@@ -31,9 +31,13 @@ pub(crate) static TYPE_PARTS: [Row; 10] = [
         (&[View], T(View)),
     ]),
     // names := NAME { ',' NAME }
-    Each(&[T(Comma), P(Part::Name)]),
-    Repeated(&[Comma], P(Part::MoreName)),
-    Each(&[P(Part::Name), P(Part::MoreNames)]),
+    Each(&[T(Comma), P(Production::Name)]),
+    Repeated(&[Comma], P(Production::MoreName)),
+    Each(&[P(Production::Name), P(Production::MoreNames)]),
+];
+
+/// The productions of types, those of `Production` in order.
+pub(crate) static TYPE_ROWS: [Row; 5] = [
     // 'Set' | 'OrderedSet' | 'Bag' | 'Sequence'
     Choice(&[
         (&[Set], T(Set)),
@@ -42,9 +46,17 @@ pub(crate) static TYPE_PARTS: [Row; 10] = [
         (&[Sequence], T(Sequence)),
     ]),
     // type := NAME | kind '(' type ')'
-    Each(&[P(Part::Kind), T(LeftParen), R(Rule::Type), T(RightParen)]),
-    Choice(&[(NAMES, P(Part::Name)), (KINDS, P(Part::CollectionType))]),
+    Each(&[
+        P(Production::Kind),
+        T(LeftParen),
+        R(Rule::Type),
+        T(RightParen),
+    ]),
+    Choice(&[
+        (NAMES, P(Production::Name)),
+        (KINDS, P(Production::CollectionType)),
+    ]),
     // [ ':' type ]
     Each(&[T(Colon), R(Rule::Type)]),
-    Optional(&[Colon], P(Part::TypeMark)),
+    Optional(&[Colon], P(Production::TypeMark)),
 ];

@@ -1,5 +1,5 @@
 ghost use Rattle.std.specs.Prelude.{◌≡◌};
-ghost use Rattle.use_nodes.specs.Nodes.{place_of_first};
+ghost use Rattle.use_syntax.specs.Reading.{place_of_first};
 
 use use_text::{Place, Token};
 

@@ -1,6 +1,6 @@
 /// A production with a name, by which others refer to it: those of a rule have its name.
 #[derive(Clone, Copy, Debug, PartialEq, Eq)]
-pub(crate) enum Part {
+pub(crate) enum Production {
     // nothing at all
     Nothing,
     // NAME: a name or a command word
@@ -255,12 +255,12 @@ pub(crate) enum Part {
     File,
 }
 
-impl Part {
+impl Production {
     ghost use Rattle.std.specs.Prelude.{◌≡◌, ◌<◌};
-    ghost use Rattle.use_syntax.specs.Numbers.{number_of_part};
+    ghost use Rattle.use_syntax.specs.Numbers.{number_of_production};
 
     pub(crate) fn number(self) -> u16
-        ensures is { result ≡ number_of_part self }
+        ensures is { result ≡ number_of_production self }
         ensures small { result < 185 }
     {
         self as u16

@@ -4,12 +4,11 @@ use Rattle.use_text.specs.declared.place.Place.{Place}
 use Rattle.use_text.specs.Codes.{code_of}
 use Rattle.use_text.specs.Refusals.{refusal_at}
 use Rattle.grammar_core.specs.declared.table.Table.{Table}
-use Rattle.grammar_core.specs.Arena.{root_tree}
 use Rattle.use_syntax.specs.Numbers.{number_of_rule}
-use Rattle.use_syntax.specs.Reading.{parsed, refused, place_in}
+use Rattle.use_syntax.specs.Reading.{refused, place_in}
 use Rattle.use_syntax.proofs.Fitness.{rules_there}
 use Rattle.use_syntax.proofs.Judged.{read_tree, read_stuck, read_deep}
-use Rattle.use_syntax.proofs.read.read_tokens.Goals as goal
+use Rattle.use_syntax.proofs.reader.read_tokens.Goals as goal
 
 pub parse-requires-clause-rule : goal.parse-requires-clause-rule
 parse-requires-clause-rule c =
@@ -18,8 +17,7 @@ parse-requires-clause-rule c =
 
 pub returns-in-Ok-clause-reading : goal.returns-in-Ok-clause-reading
 returns-in-Ok-clause-reading c =
-    let e = read_tree c.args.g.now c.args.tokens c.as_slice.result.now (number_of_rule c.args.start) c.number.result c.requires.table c.as_slice.ensures c.number.ensures.is c.in-Ok.tree c.in-Ok.ensures.verdict in
-    (e ∙ ap (λ l. parsed l (root_tree c.in-Ok.tree)) (sym c.tokens.view_is), c.in_ok-from_slice-in-Ok.ensures)
+    read_tree c.args.g.now c.args.tokens c.as_slice.result.now (number_of_rule c.args.start) c.number.result c.requires.table c.as_slice.ensures c.number.ensures.is c.in-Ok.tree c.in-Ok.ensures.verdict
 
 pub returns-in-Err-Stuck-clause-reading : goal.returns-in-Err-Stuck-clause-reading
 returns-in-Err-Stuck-clause-reading c =

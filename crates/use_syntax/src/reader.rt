@@ -1,0 +1,117 @@
+ghost use Rattle.std.specs.Prelude.{◌≡◌, ◌+◌, ◌≤◌, All, IfOk, length};
+ghost use Rattle.use_text.specs.Tokens.{IsWithin};
+ghost use Rattle.use_syntax.specs.Language.{language};
+ghost use Rattle.use_syntax.specs.Reading.{max_line, max_text, place_in, read, read_command, read_model, read_tokens, ReadsTree};
+ghost use Rattle.use_syntax.specs.Numbers.{number_of_rule};
+
+use crate::{Rule, SyntaxFault, TokenTree};
+use grammar_core::{Grammar, ParseFault, Parser};
+use std::alloc::Global;
+use use_text::{Code, LexFault, Place, Refusal, Token, Tokens, lex};
+
+/// The lists that reading works with, kept from one text to the next. What was read before changes
+/// nothing.
+#[derive(Drop)]
+pub struct Reader {
+    alloc: Global,
+    parser: Parser,
+}
+
+/// The place of a token, by its number in the list.
+fn place_in(tokens: &[Token], at: u32) -> Place
+    ensures { result ≡ place_in tokens.now at }
+{
+    match tokens.get(at as usize) {
+        Some(token) => token.place,
+        None => Place { line: 0, col: 0 },
+    }
+}
+
+/// Reads the tokens of a text as a rule.
+fn read_tokens(
+    parser: &mut Parser,
+    g: &Grammar,
+    start: Rule,
+    tokens: Tokens,
+) -> Result<TokenTree, SyntaxFault>
+    requires table { g.now ≡ language }
+    requires few { length tokens ≤ max_text + 1 }
+    ensures reading { ReadsTree (read_tokens (number_of_rule start) tokens) result }
+    ensures same { IfOk result (λ p. p.tokens ≡ tokens) }
+{
+    match parser.parse(g, start.number(), tokens.as_slice()) {
+        Ok(tree) => Ok(TokenTree { tree, tokens }),
+        Err(ParseFault::Memory) => Err(SyntaxFault::Memory),
+        Err(ParseFault::Stuck { token }) => Err(SyntaxFault::Refused(Refusal {
+            code: Code::S1,
+            place: place_in(tokens.as_slice(), token),
+        })),
+        Err(ParseFault::Deep { token }) => Err(SyntaxFault::Refused(Refusal {
+            code: Code::S2,
+            place: place_in(tokens.as_slice(), token),
+        })),
+    }
+}
+
+impl Reader {
+    /// With lists that hold nothing yet.
+    pub fn new(alloc: Global) -> Reader {
+        Reader {
+            alloc,
+            parser: Parser::new(alloc),
+        }
+    }
+
+    /// Reads a text as a rule.
+    pub(crate) fn read(
+        &mut self,
+        g: &Grammar,
+        start: Rule,
+        text: &[u8],
+        first_line: u32,
+    ) -> Result<TokenTree, SyntaxFault>
+        requires table { g.now ≡ language }
+        requires text { length text.now ≤ max_text }
+        requires line { first_line ≤ max_line }
+        ensures reading { ReadsTree (read (number_of_rule start) first_line text.now) result }
+        ensures within { IfOk result (λ p. All (IsWithin (length text.now)) p.tokens) }
+    {
+        match lex(self.alloc, text, first_line) {
+            Ok(tokens) => read_tokens(&mut self.parser, g, start, tokens),
+            Err(LexFault::Memory) => Err(SyntaxFault::Memory),
+            Err(LexFault::Bad(refusal)) => Err(SyntaxFault::Refused(refusal)),
+        }
+    }
+
+    /// Reads the text of a model, as the function `read_model`.
+    pub fn read_model(&mut self, g: &Grammar, text: &[u8]) -> Result<TokenTree, SyntaxFault>
+        requires table { g.now ≡ language }
+        requires text { length text.now ≤ max_text }
+        ensures reading { ReadsTree (read_model text.now) result }
+        ensures within { IfOk result (λ p. All (IsWithin (length text.now)) p.tokens) }
+    {
+        self.read(g, Rule::File, text, 1)
+    }
+
+    /// Reads the text of a command, as the function `read_command`.
+    pub fn read_command(
+        &mut self,
+        g: &Grammar,
+        text: &[u8],
+        first_line: u32,
+    ) -> Result<TokenTree, SyntaxFault>
+        requires table { g.now ≡ language }
+        requires text { length text.now ≤ max_text }
+        requires line { first_line ≤ max_line }
+        ensures reading { ReadsTree (read_command first_line text.now) result }
+        ensures within { IfOk result (λ p. All (IsWithin (length text.now)) p.tokens) }
+    {
+        self.read(g, Rule::Command, text, first_line)
+    }
+
+    /// Takes back the lists of what was read and is needed no more, for the next text.
+    pub fn take_back(&mut self, read: TokenTree) {
+        let TokenTree { tree, tokens: _ } = read;
+        self.parser.take_back(tree);
+    }
+}
