@@ -8,6 +8,7 @@ mod cutter;
 mod law;
 mod lexer;
 mod line;
+mod marks;
 mod pending;
 mod piece;
 mod place;
