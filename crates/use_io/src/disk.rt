@@ -32,6 +32,13 @@ impl<'a, R: Files> DiskShelf<'a, R> {
     {
         DiskShelf { rt, faults: 0 }
     }
+
+    /// How often it has failed.
+    pub fn faults(&self) -> u64
+        ensures { result ≡ self.now }
+    {
+        self.faults
+    }
 }
 
 // All that a reader has left, where it is at most so many bytes.
