@@ -170,14 +170,15 @@ fn push_if_some(tokens: &mut Vec<Token>, token: Option<Token>) -> Result<(), All
     Ok(())
 }
 
-/// The tokens of a text that is UTF-8.
-fn lex_utf8(alloc: Global, text: &[u8], first_line: u32) -> Result<Tokens, LexFault>
+/// The tokens of a text that is UTF-8, in the room of other tokens.
+fn lex_utf8(old: Tokens, text: &[u8], first_line: u32) -> Result<Tokens, LexFault>
     requires text { length text.now ≤ max_text }
     requires line { first_line ≤ max_lines }
     ensures tokens { Lexes (tokens_of_utf8 first_line text.now) result }
     ensures within { IfOk result (All (IsWithin (length text.now))) }
 {
-    let mut tokens = Vec::new(alloc);
+    let mut tokens = old.into_vec();
+    tokens.clear();
     let mut at = 0usize;
     let mut place = Place {
         line: first_line,
@@ -228,11 +229,21 @@ pub fn lex(alloc: Global, text: &[u8], first_line: u32) -> Result<Tokens, LexFau
     ensures tokens { Lexes (tokens first_line text.now) result }
     ensures within { IfOk result (All (IsWithin (length text.now))) }
 {
+    lex_into(Items::new(alloc), text, first_line)
+}
+
+/// The same, in the room of tokens that are no longer wanted.
+pub fn lex_into(old: Tokens, text: &[u8], first_line: u32) -> Result<Tokens, LexFault>
+    requires text { length text.now ≤ max_text }
+    requires line { first_line ≤ max_lines }
+    ensures tokens { Lexes (tokens first_line text.now) result }
+    ensures within { IfOk result (All (IsWithin (length text.now))) }
+{
     match first_fault(text, first_line) {
         Some(place) => Err(LexFault::Bad(Refusal {
             code: Code::L1,
             place,
         })),
-        None => lex_utf8(alloc, text, first_line),
+        None => lex_utf8(old, text, first_line),
     }
 }

@@ -22,7 +22,7 @@ pub use code::{Code, Family, text_of};
 pub use cut::{Cut, Fate};
 pub use cutter::Cutter;
 pub use law::tokens_are_the_lexemes;
-pub use lexer::{LexFault, behind_all, lex};
+pub use lexer::{LexFault, behind_all, lex, lex_into};
 pub use piece::{is_name_byte, number_of_digits, white_length};
 pub use place::Place;
 pub use quoted::string_of_quoted;
