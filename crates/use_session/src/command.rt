@@ -10,7 +10,8 @@ ghost use Rattle.use_syntax.specs.Language.{language};
 ghost use Rattle.use_syntax.specs.Reading.{read_command};
 ghost use Rattle.use_nodes.specs.Nodes.{and_then, place_of_first};
 ghost use Rattle.use_nodes.specs.CommandNodes.{command_node, query_node};
-ghost use Rattle.use_session.specs.Commands.{command_of, command_of_text, command_of_reading, command_of_parts, command_of_form, query_numbers, query_of, unbuilt, AddsUp};
+ghost use Rattle.use_session.specs.Commands.{command_of, command_of_text, command_of_reading, command_of_parts, command_of_form, query_numbers, query_of, unbuilt};
+ghost use Rattle.use_session.specs.Sums.{AddsUp};
 
 use crate::file_word::{first_place, opens_file};
 use crate::sum::query_numbers;

@@ -71,6 +71,12 @@ pub record HasLimitCause (limit : ℕ) (status : Status) (input : List ℕ) : Ty
 abbrev pub HasLengthCause : Status → List ℕ → Type 0
 HasLengthCause status input = HasLimitCause max_input status input
 
+-- no count of faults rose in a run, or stands at its last value: of source, shelf and sink, before and now
+pub record NoneRose (source source_now shelf shelf_now sink sink_now : ℕ) : Type 0 where
+  pub of_source : ¬ Rose source source_now
+  pub of_shelf : ¬ Rose shelf shelf_now
+  pub of_sink : ¬ Rose sink sink_now
+
 -- the output's status, or want of memory
 abbrev pub IsComplete : Ending → Status → Type 0
 IsComplete e status = (status ≡ e.status) ⊎ (status ≡ Memory)

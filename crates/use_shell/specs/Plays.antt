@@ -30,6 +30,13 @@ pub record PlaysOn (m : Machine) (bytes piece : List ℕ) (now : Machine) (c : C
 abbrev pub PlaysFront : Machine → List ℕ → List ℕ → Option (List ℕ) → Option (List ℕ) → Type 0
 PlaysFront m bytes piece old new = (more rest : List Cut) → ended (bytes ++ piece) ≡ ended bytes ++ more → AppendsFront old new (play m (more ++ rest)).bytes
 
+-- the same of both, whatever the cutter was fed before
+abbrev pub PlaysPiece : Standing → Cutting → List ℕ → Standing → Cutting → Option (List ℕ) → Option (List ℕ) → Bool → Type 0
+PlaysPiece s c piece now cut old new over = (bytes : List ℕ) → StandsFor c bytes → PlaysOn s.machine bytes piece now.machine cut over old new
+
+abbrev pub PlaysPieceFront : Standing → Cutting → List ℕ → Option (List ℕ) → Option (List ℕ) → Type 0
+PlaysPieceFront s c piece old new = (bytes : List ℕ) → StandsFor c bytes → PlaysFront s.machine bytes piece old new
+
 -- the command that the input's end cuts off was played, if there is one
 pub record PlaysLast (m : Machine) (bytes : List ℕ) (old new : Option (List ℕ)) : Type 0 where
   pub more : List Cut

@@ -6,7 +6,7 @@ ghost use Rattle.use_text.specs.Limits.{max_lines};
 ghost use Rattle.use_syntax.specs.Language.{language};
 ghost use Rattle.use_session.specs.Machine.{step};
 ghost use Rattle.use_shell.specs.Output.{ends_run, play, max_input};
-ghost use Rattle.use_shell.specs.Plays.{IsReady, PlaysOn, PlaysFront, PlaysLast, FrontOfLast, Streams};
+ghost use Rattle.use_shell.specs.Plays.{IsReady, PlaysPiece, PlaysPieceFront, PlaysLast, FrontOfLast, Streams};
 ghost use Rattle.use_shell.specs.Stops.{StopsByWrite};
 
 use crate::Status;
@@ -91,10 +91,8 @@ fn play_piece<K: Sink, L: Ledger>(
 ) -> Result<bool, Stop>
     requires ready { IsReady session.old cutter.old }
     requires count { cutter.old.count + length piece.now ≤ max_lines }
-    ensures ok { IfOk result (λ over. (bytes : List ℕ) → StandsFor cutter.old bytes
-        → PlaysOn session.old.machine bytes piece.now session.new.machine cutter.new over (K.written sink.old) (K.written sink.new)) }
-    ensures err { OnErr result ((bytes : List ℕ) → StandsFor cutter.old bytes
-        → PlaysFront session.old.machine bytes piece.now (K.written sink.old) (K.written sink.new)) }
+    ensures ok { IfOk result (PlaysPiece session.old cutter.old piece.now session.new cutter.new (K.written sink.old) (K.written sink.new)) }
+    ensures err { OnErr result (PlaysPieceFront session.old cutter.old piece.now (K.written sink.old) (K.written sink.new)) }
     ensures ready { IfOk result (λ over. over ≡ false → IsReady session.new cutter.new) }
     ensures count { OnOk result (cutter.new.count ≤ cutter.old.count + length piece.now) }
     ensures cause { StopsByWrite (K.faults sink.old) (K.faults sink.new) result }

@@ -5,7 +5,7 @@ ghost use Rattle.use_syntax.specs.Language.{language};
 ghost use Rattle.use_session.specs.Machine.{refusal_line};
 ghost use Rattle.use_shell.specs.Words.{usage_line, words_of};
 ghost use Rattle.use_shell.specs.Output.{of_input};
-ghost use Rattle.use_shell.specs.Endings.{AppendsFront, RunEnds, HasUsageCause, HasModelCause, HasLengthCause, RunIsComplete, IsTaken, AnswersTaken, LeavesSource};
+ghost use Rattle.use_shell.specs.Endings.{AppendsFront, RunEnds, HasUsageCause, HasModelCause, HasLengthCause, NoneRose, RunIsComplete, IsTaken, AnswersTaken, LeavesSource};
 ghost use Rattle.use_shell.specs.Finishes.{Finishes, RunFinishes, IsFinal, IsPlayed, StopsByUsage, StopsByModel, StopsByLength, StopsByShelf, FinishesTaken, StopsUntouched};
 ghost use Rattle.use_shell.specs.Stops.{StopsByWrite};
 
@@ -133,8 +133,7 @@ pub fn run<F: Shelf, S: Source, K: Sink, L: Ledger>(
     ensures write { result ≡ Status.WriteFault → Rose (K.faults sink.old) (K.faults sink.new) }
 
     // Where shelf and source tell their bytes and no fault came, the status is the output's, or memory was wanting.
-    ensures complete { ¬ Rose (S.faults source.old) (S.faults source.new) → ¬ Rose (F.faults shelf.old) (F.faults shelf.new)
-        → ¬ Rose (K.faults sink.old) (K.faults sink.new)
+    ensures complete { NoneRose (S.faults source.old) (S.faults source.new) (F.faults shelf.old) (F.faults shelf.new) (K.faults sink.old) (K.faults sink.new)
         → RunIsComplete (words_of words.now) (F.files shelf.old) (S.left source.old) result }
     ensures steps { steps.new ≡ steps.old }
 {
