@@ -1,5 +1,5 @@
 // Files of the system. They tell no content.
-ghost use Rattle.std.specs.Prelude.{None, ◌≡◌, ◌≤◌, IfOk, length};
+ghost use Rattle.std.specs.Prelude.{None, ◌≡◌, ◌<◌, ◌≤◌, IfOk, IfSome, IsErrOf, length};
 
 use crate::{Shelf, ShelfFault};
 use std::alloc::Global;
@@ -32,15 +32,25 @@ impl<'a, R: Files> DiskShelf<'a, R> {
     {
         DiskShelf { rt, faults: 0 }
     }
+
+    /// How often it has failed.
+    pub fn faults(&self) -> u64
+        ensures { result ≡ self.now }
+    {
+        self.faults
+    }
 }
 
-// All bytes of a reader, where they are at most so many.
-fn read_within<T: Read + Drop>(
+// All that a reader has left, where it is at most so many bytes.
+pub(crate) fn read_within<T: Read + Drop>(
     alloc: Global,
     mut reader: T,
     limit: u32,
 ) -> Result<Vec<u8>, ShelfFault>
-    ensures { IfOk result (λ v. length v.items ≤ limit) }
+    ensures bound { IfOk result (λ v. length v.items ≤ limit) }
+    ensures whole { IfOk result (λ v. IfSome (T.remaining reader) (λ bytes. v.items ≡ bytes)) }
+    ensures long { IsErrOf result ShelfFault.TooLong → IfSome (T.remaining reader) (λ bytes. limit < length bytes) }
+    ensures never_missing { ¬ IsErrOf result ShelfFault.Missing }
 {
     let mut bytes = Vec::new(alloc);
     let mut piece = [0u8; 4096];

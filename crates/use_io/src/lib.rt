@@ -4,6 +4,7 @@
 
 mod calm;
 mod disk;
+mod faulty;
 mod memory;
 mod real;
 
@@ -15,6 +16,7 @@ ghost use Rattle.use_io.specs.Shelves.{Files, LacksFile, HasLonger, HasFile, Kee
 
 pub use calm::{CalmIn, CalmOut};
 pub use disk::DiskShelf;
+pub use faulty::FaultyIn;
 pub use memory::MemShelf;
 pub use real::{StdIn, StdOut};
 use std::alloc::Global;

@@ -38,6 +38,84 @@ fn sources_give_pieces_and_then_the_end(rt: HostRuntime) -> Result<(), Fail> {
     assert_eq!(rt; &buf[..5], b"abcde".as_slice());
     assert_eq!(rt; real.take(&mut buf), Ok(0));
     assert_eq!(rt; StdIn::new(Broken).take(&mut buf), Err(Failed));
+    let bytes = b"abcde".to_vec(rt.alloc())?;
+    let mut faulty = FaultyIn::new(bytes, 3, vec![in rt.alloc(); 2, 4]?);
+    assert_eq!(rt; faulty.take(&mut buf), Ok(3));
+    assert_eq!(rt; faulty.take(&mut buf), Err(Failed));
+    assert_eq!(rt; faulty.take(&mut buf), Ok(2));
+    assert_eq!(rt; &buf[..2], b"de".as_slice());
+    assert_eq!(rt; faulty.take(&mut buf), Err(Failed));
+    assert_eq!(rt; faulty.take(&mut buf), Ok(0));
+    Ok(())
+}
+
+// A reader that gives one byte at a time.
+#[derive(Drop)]
+struct Slow<'a> {
+    bytes: &'a [u8],
+    at: usize,
+}
+
+impl Read for Slow<'_> {
+    fn read(&mut self, buf: &mut [u8]) -> io::Result<usize> {
+        if buf.is_empty() || self.at >= self.bytes.len() {
+            return Ok(0);
+        }
+        buf[0] = self.bytes[self.at];
+        self.at += 1;
+        Ok(1)
+    }
+}
+
+// The lengths of files round the sizes of a piece and of a model.
+const LENGTHS: [usize; 5] = [0, 1, 4096, 4097, 4_194_305];
+
+#[test]
+fn a_reader_that_gives_one_byte_at_a_time_is_read_whole(rt: HostRuntime) -> Result<(), Fail> {
+    let alloc = rt.alloc();
+    let mut source = StdIn::new(Slow {
+        bytes: b"ab",
+        at: 0,
+    });
+    let mut buf = [0u8; 8];
+    assert_eq!(rt; source.take(&mut buf), Ok(1));
+    assert_eq!(rt; buf[0], b'a');
+    assert_eq!(rt; source.take(&mut buf), Ok(1));
+    assert_eq!(rt; buf[0], b'b');
+    assert_eq!(rt; source.take(&mut buf), Ok(0));
+    let bytes = vec![in alloc; b'x'; 4097]?;
+    let slow = Slow {
+        bytes: &bytes,
+        at: 0,
+    };
+    assert!(rt;
+        disk::read_within(alloc, slow, 4097).is_ok_and(|v| v.as_slice() == bytes.as_slice())
+    );
+    Ok(())
+}
+
+#[test]
+fn files_of_the_disk_are_read_whole(rt: HostRuntime) -> Result<(), Fail> {
+    let alloc = rt.alloc();
+    let mut disk = DiskShelf::new(&rt);
+    for length in LENGTHS {
+        let mut bytes = vec![in alloc; b'x'; length]?;
+        if let Some(last) = bytes.last_mut() {
+            *last = b'y';
+        }
+        let id = std::process::id(rt.process());
+        let name = format!(in alloc; "/tmp/use_io-{id}-{length}")?;
+        std::fs::write(&rt, &name, &bytes)?;
+        let whole = disk.fetch(alloc, &name, 4_194_305);
+        let short = disk.fetch(alloc, &name, 4_194_304);
+        std::fs::remove_file(&rt, &name)?;
+        assert!(rt;
+            whole.is_ok_and(|v| v.as_slice() == bytes.as_slice()),
+            "of {length}"
+        );
+        let is_long = matches!(short, Err(ShelfFault::TooLong));
+        assert_eq!(rt; is_long, length > 4_194_304, "of {length}");
+    }
     Ok(())
 }
 

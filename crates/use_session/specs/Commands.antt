@@ -1,6 +1,5 @@
 -- Commands, as they are read from their trees.
-use Rattle.std.specs.Prelude.{ℕ, ◌&&◌, not, true, nat_le, if◌then◌else◌, Bool, codes, take, drop, List, [], ◌∷◌, length, Option, Some, None, is_some, ℤ, slice_range, All, ⊤}
-use Rattle.std.specs.Int.{IsNonNegative}
+use Rattle.std.specs.Prelude.{ℕ, ◌&&◌, not, true, nat_le, if◌then◌else◌, Bool, codes, take, drop, List, [], ◌∷◌, length, Option, Some, None, is_some, ℤ, slice_range}
 use Rattle.use_text.specs.declared.cut.Cut.{Cut}
 use Rattle.use_text.specs.declared.cut.Fate.{Fate}
 use Rattle.use_text.specs.declared.cut.Fate.TheVariants.{Whole, TooLong, Unfinished}
@@ -104,9 +103,3 @@ command_of_fate Unfinished line text = Refused (refusal_at (code_of K 2) (place_
 -- what a command of the stream asks for
 abbrev pub command_of : Cut → Command
 command_of cut = command_of_fate cut.fate cut.first_line cut.text
-
--- the numbers of a sum are not negative
-abbrev pub AddsUp : Command → Type 0
-AddsUp (Query ns) = All IsNonNegative ns
-AddsUp Empty = ⊤
-AddsUp (Refused r) = ⊤

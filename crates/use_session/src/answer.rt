@@ -1,6 +1,6 @@
 ghost use Rattle.std.specs.Prelude.{◌≡◌, ◌++◌, OnOk, IfOk, All};
 ghost use Rattle.std.specs.Int.{IsNonNegative};
-ghost use Rattle.use_session.specs.Commands.{AddsUp};
+ghost use Rattle.use_session.specs.Sums.{AddsUp};
 ghost use Rattle.ocl_values.specs.Integers.{int_value};
 ghost use Rattle.use_session.specs.Machine.{total, value_line, refusal_line, start, carried_out};
 

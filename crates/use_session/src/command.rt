@@ -1,6 +1,7 @@
 ghost use Rattle.std.specs.Prelude.{◌≡◌, ◌≤◌, IfOk, IfSome, All, length};
 ghost use Rattle.std.specs.Int.{IsNonNegative};
 ghost use Rattle.use_text.specs.Cuts.{IsCommand};
+ghost use Rattle.use_text.specs.Limits.{max_command, max_lines};
 ghost use Rattle.use_text.specs.Places.{place_at};
 ghost use Rattle.use_text.specs.Refusals.{refusal_at};
 ghost use Rattle.use_text.specs.Tokens.{IsWithin};
@@ -9,7 +10,8 @@ ghost use Rattle.use_syntax.specs.Language.{language};
 ghost use Rattle.use_syntax.specs.Reading.{read_command};
 ghost use Rattle.use_nodes.specs.Nodes.{and_then, place_of_first};
 ghost use Rattle.use_nodes.specs.CommandNodes.{command_node, query_node};
-ghost use Rattle.use_session.specs.Commands.{command_of, command_of_text, command_of_reading, command_of_parts, command_of_form, query_numbers, query_of, unbuilt, AddsUp};
+ghost use Rattle.use_session.specs.Commands.{command_of, command_of_text, command_of_reading, command_of_parts, command_of_form, query_numbers, query_of, unbuilt};
+ghost use Rattle.use_session.specs.Sums.{AddsUp};
 
 use crate::file_word::{first_place, opens_file};
 use crate::sum::query_numbers;
@@ -73,7 +75,7 @@ fn query_of(place: Place, numbers: Option<Items<i128>>) -> Command
 /// Reads a command of the stream.
 pub fn read_cut(alloc: Global, grammar: &Grammar, cut: &Cut) -> Result<Command, AllocError>
     requires table { grammar.now ≡ language }
-    requires command { IsCommand 4000000000 cut.now }
+    requires command { IsCommand max_lines cut.now }
     ensures command { IfOk result (λ command. command ≡ command_of cut.now) }
     ensures not_negative { IfOk result AddsUp }
 {
@@ -91,8 +93,8 @@ fn read_text(
     line: u32,
 ) -> Result<Command, AllocError>
     requires table { grammar.now ≡ language }
-    requires text { length text.now ≤ 65536 }
-    requires line { line ≤ 4000000000 }
+    requires text { length text.now ≤ max_command }
+    requires line { line ≤ max_lines }
     ensures command { IfOk result (λ command. command ≡ command_of_text line text.now) }
     ensures not_negative { IfOk result AddsUp }
 {
@@ -110,8 +112,8 @@ fn read_parsed(
     line: u32,
 ) -> Result<Command, AllocError>
     requires table { grammar.now ≡ language }
-    requires text { length text.now ≤ 65536 }
-    requires line { line ≤ 4000000000 }
+    requires text { length text.now ≤ max_command }
+    requires line { line ≤ max_lines }
     ensures command { IfOk result (λ command. command ≡ command_of_reading line text.now (read_command line text.now)) }
     ensures not_negative { IfOk result AddsUp }
 {

@@ -1,4 +1,5 @@
 ghost use Rattle.std.specs.Prelude.{◌≡◌, ◌≤◌, length};
+ghost use Rattle.use_text.specs.Limits.{max_command, max_lines};
 ghost use Rattle.use_session.specs.Commands.{ends_word, opens_file, first_place};
 
 use use_text::{Place, behind_all, is_name_byte, white_length};
@@ -23,8 +24,8 @@ pub fn opens_file(text: &[u8]) -> bool
 
 /// The place of the first byte that is not white.
 pub fn first_place(line: u32, text: &[u8]) -> Place
-    requires text { length text.now ≤ 65536 }
-    requires line { line ≤ 4000000000 }
+    requires text { length text.now ≤ max_command }
+    requires line { line ≤ max_lines }
     ensures { result ≡ first_place line text.now }
 {
     behind_all(Place { line, col: 1 }, &text[..white_length(text)])

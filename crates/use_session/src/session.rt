@@ -1,17 +1,17 @@
 ghost use Rattle.std.specs.Prelude.{◌≡◌, ◌++◌, ◌↔◌, IsTrue, IsErrOf, IfOk, OnOk, is_err, false, ◌+◌};
 ghost use Rattle.use_text.specs.Cuts.{IsCommand};
+ghost use Rattle.use_text.specs.Limits.{max_lines};
 ghost use Rattle.use_syntax.specs.Language.{language};
 ghost use Rattle.use_session.specs.Machine.{step, start};
 
 use crate::answer::carry_out;
 use crate::command::read_cut;
-use grammar_core::{Grammar, GrammarFault};
+use grammar_core::Grammar;
 use std::alloc::{AllocError, Global};
 use std::marker::Model;
 use std::sync::ledger::Ledger;
 use thiserror::Error;
 use use_steps::Steps;
-use use_syntax::grammar;
 use use_text::{Code, Cut};
 
 /// How a command ended.
@@ -54,19 +54,16 @@ impl Model for Session {
 }
 
 impl Session {
-    /// A session before its first command.
-    pub fn new(alloc: Global) -> Result<Session, AllocError>
-        ensures over { IfOk result (λ s. s.over ≡ false) }
-        ensures machine { IfOk result (λ s. s.machine ≡ start) }
+    /// A session before its first command. It reads commands by the grammar of the language.
+    pub fn new(alloc: Global, grammar: Grammar) -> Session
+        requires { grammar ≡ language }
+        ensures over { result.over ≡ false }
+        ensures machine { result.machine ≡ start }
     {
-        match grammar(alloc) {
-            Ok(grammar) => Ok(Session {
-                alloc,
-                grammar,
-                over: false,
-            }),
-            Err(GrammarFault::Memory) => Err(AllocError),
-            Err(GrammarFault::Unfit { prod: _ }) => unreachable!(),
+        Session {
+            alloc,
+            grammar,
+            over: false,
         }
     }
 
@@ -78,7 +75,7 @@ impl Session {
         out: &mut Vec<u8>,
         steps: &mut Steps<L>,
     ) -> Result<Turn, SessionFault>
-        requires { IsCommand 4000000000 cut.now }
+        requires { IsCommand max_lines cut.now }
         ensures bytes { OnOk result (out.new.items ≡ out.old.items ++ (step self.old.machine cut.now).bytes) }
         ensures turn { IfOk result (λ turn. turn ≡ (step self.old.machine cut.now).turn) }
         ensures machine { OnOk result (self.new.machine ≡ (step self.old.machine cut.now).machine) }
@@ -109,7 +106,7 @@ fn answer(
     out: &mut Vec<u8>,
 ) -> Result<Turn, AllocError>
     requires table { grammar.now ≡ language }
-    requires command { IsCommand 4000000000 cut.now }
+    requires command { IsCommand max_lines cut.now }
     ensures bytes { OnOk result (out.new.items ≡ out.old.items ++ (step start cut.now).bytes) }
     ensures turn { IfOk result (λ turn. turn ≡ (step start cut.now).turn) }
 {

@@ -1,12 +1,22 @@
-ghost use Rattle.std.specs.Prelude.{◌≡◌, ◌<◌, ◌≤◌, length};
+ghost use Rattle.std.specs.Prelude.{◌≡◌, ◌<◌, ◌≤◌, IfOk, length};
+ghost use Rattle.use_text.specs.Limits.{max_command};
+ghost use Rattle.use_syntax.specs.Language.{language};
 
 use super::*;
+use grammar_core::Grammar;
 use std::alloc::Global;
 use std::marker::Brand;
 use std::sync::ledger::{Blank, Ledger};
 use std::test::Fail;
 use use_steps::Steps;
+use use_syntax::grammar;
 use use_text::{Bytes, Code, Cut, Fate};
+
+fn language(alloc: Global) -> Result<Grammar, Fail>
+    ensures { IfOk result (λ g. g ≡ language) }
+{
+    Ok(grammar(alloc)?)
+}
 
 // What a new session writes for a command whose first line is 7, and how the command ends.
 fn answered<L: Ledger>(
@@ -18,10 +28,10 @@ fn answered<L: Ledger>(
     requires name { blank.name ≡ L.name }
     requires parts { blank.parts ≡ L.parts }
     requires some { 0 < blank.parts }
-    requires short { length text.now ≤ 65536 }
+    requires short { length text.now ≤ max_command }
 {
     let mut steps = Steps::<L>::new(blank);
-    let mut session = Session::new(alloc)?;
+    let mut session = Session::new(alloc, language(alloc)?);
     let cut = Cut {
         text: Bytes::from_slice(alloc, text)?,
         first_line: 7,

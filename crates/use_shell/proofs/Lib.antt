@@ -1,3 +1,5 @@
 pub mod MoveLemmas
 pub mod PlayLemmas
+pub mod LimitLemmas
+pub mod StreamLemmas
 pub mod SourceLemmas

@@ -1,6 +1,6 @@
 -- Bytes that are taken and put a piece at a time.
 use Rattle.std.proofs.Common.{ℕ, ◌+◌, ◌-◌, List, [], ◌++◌, length, take, drop, Option, Some, None, refl, sym, ap, ◌∙◌, append_assoc, append-nil, take-add, Result, Ok, Err, OnErr}
-use Rattle.std.specs.Io.KnownBytes.{Appends, Keeps}
+use Rattle.std.specs.Io.KnownBytes.{Appends, Keeps, Consumes}
 use Rattle.std.proofs.lemmas.List.{take_rest, take-append-drop}
 use Rattle.use_shell.specs.Endings.{AppendsFront}
 
@@ -50,3 +50,20 @@ front_longer a b bytes rest k = record { front = k.front; rest = k.rest ++ rest;
 pub on_err : {T E : Type 0} (r : Result T E) (P : Type 0) → P → OnErr r P
 on_err (Ok x) P h = tt
 on_err (Err e) P h = h
+
+-- bytes that are taken one piece after another
+pub consumes_then : (a b c : Option (List ℕ)) (xs ys : List ℕ) → Consumes a b xs → Consumes b c ys → Consumes a c (xs ++ ys)
+consumes_then None b c xs ys h k = tt
+consumes_then (Some x) None c xs ys h k = absurd h
+consumes_then (Some x) (Some y) None xs ys h k = absurd k
+consumes_then (Some x) (Some y) (Some z) xs ys h k = h ∙ ap (λ l. xs ++ l) k ∙ sym (append_assoc xs ys z)
+
+pub consumes_nothing : (a : Option (List ℕ)) → Consumes a a []
+consumes_nothing None = tt
+consumes_nothing (Some xs) = refl
+
+pub consumes_kept : (a b c : Option (List ℕ)) (xs : List ℕ) → Consumes a b xs → Keeps b c → Consumes a c xs
+consumes_kept None b c xs h k = tt
+consumes_kept (Some x) None c xs h k = absurd h
+consumes_kept (Some x) (Some y) None xs h k = absurd k
+consumes_kept (Some x) (Some y) (Some z) xs h k = h ∙ ap (λ l. xs ++ l) (sym k)

@@ -1,13 +1,14 @@
 -- How a run ends, where source, sink and shelf tell their bytes, and what each answer's cause is.
-use Rattle.std.specs.Prelude.{ℕ, ◌≡◌, ◌<◌, ◌≤◌, ◌⊎◌, List, ◌++◌, length, Option, None, Result, Ok, Err, IsSome, IfOk, MatchResult, ⊤}
+use Rattle.std.specs.Prelude.{ℕ, ◌≡◌, ◌⊎◌, true, false, List, ◌++◌, Option, None, IsSome, IfSome, ⊤}
 use Rattle.std.specs.Io.KnownBytes.{Appends, Consumes, IsAtEnd}
+use Rattle.use_io.specs.Causes.{Rose}
+use Rattle.use_io.specs.Shelves.{Files}
+use Rattle.use_text.specs.Cuts.{ended}
+use Rattle.use_session.specs.Machine.{start}
 use Rattle.use_shell.specs.declared.status.Status.{Status}
 use Rattle.use_shell.specs.declared.status.Status.TheVariants.{Done, Usage, ModelRefused, ReadFault, WriteFault, Memory, TooLong}
-use Rattle.use_io.specs.Shelves.{Files}
-use Rattle.use_shell.specs.declared.stop.Stop.{Stop}
-use Rattle.use_shell.specs.declared.stop.Stop.TheVariants.{Read, Write, Memory as Wanting}
 use Rattle.use_shell.specs.Words.{model_word}
-use Rattle.use_shell.specs.Output.{Ending, max_input, refusal_for}
+use Rattle.use_shell.specs.Output.{Ending, max_input, play, is_too_long, refusal_for, output}
 
 -- a front of the bytes was written
 pub record AppendsFront (old new : Option (List ℕ)) (bytes : List ℕ) : Type 0 where
@@ -15,10 +16,6 @@ pub record AppendsFront (old new : Option (List ℕ)) (bytes : List ℕ) : Type 
   pub rest : List ℕ
   pub whole : bytes ≡ front ++ rest
   pub written : Appends old new front
-
--- All that was left was taken, or the first bytes of it, more than an input may have.
-abbrev pub Gathers : Option (List ℕ) → Option (List ℕ) → List ℕ → Type 0
-Gathers old new taken = Consumes old new taken × (IsAtEnd new ⊎ (max_input < length taken))
 
 -- the bytes were written whole, and the status is this one
 pub record EndsWith (e : Ending) (status : Status) (old new : Option (List ℕ)) : Type 0 where
@@ -35,20 +32,9 @@ Ends e old new ReadFault = AppendsFront old new e.bytes
 Ends e old new WriteFault = AppendsFront old new e.bytes
 Ends e old new Memory = AppendsFront old new e.bytes
 
--- the same of a run that may have been stopped
-abbrev pub Finishes : Ending → Option (List ℕ) → Option (List ℕ) → Result Status Stop → Type 0
-Finishes e old new (Ok status) = EndsWith e status old new
-Finishes e old new (Err stop) = AppendsFront old new e.bytes
-
--- a status that no fault gives
-abbrev pub IsFinal : Status → Type 0
-IsFinal Done = ⊤
-IsFinal Usage = ⊤
-IsFinal ModelRefused = ⊤
-IsFinal TooLong = ⊤
-IsFinal ReadFault = ⊥
-IsFinal WriteFault = ⊥
-IsFinal Memory = ⊥
+-- the same, where shelf and source tell their bytes
+abbrev pub RunEnds : List (List ℕ) → Option Files → Option (List ℕ) → Option (List ℕ) → Option (List ℕ) → Status → Type 0
+RunEnds words files left old new status = IfSome files (λ held. IfSome left (λ input. Ends (output words held input) old new status))
 
 -- how a run ends whose words are refused: so, or by a fault of its one write
 abbrev pub EndsByUsage : Status → Type 0
@@ -70,43 +56,57 @@ pub record HasUsageCause (words : List (List ℕ)) (status : Status) : Type 0 wh
   pub only : status ≡ Usage → model_word words ≡ None
   pub always : model_word words ≡ None → EndsByUsage status
 
--- ModelRefused comes exactly where the words name a model that is refused, but for a fault before.
-pub record HasModelCause (words : List (List ℕ)) (files : Files) (status : Status) : Type 0 where
+-- ModelRefused comes exactly where the words name a model that is refused, but for a fault before: of the shelf, of the one write, or want of
+-- memory. `before` and `now` count the shelf's faults.
+pub record HasModelCause (words : List (List ℕ)) (before now : ℕ) (status : Status) (files : Files) : Type 0 where
   pub only : status ≡ ModelRefused → IsSome (refusal_for words files)
   pub always : IsSome (refusal_for words files) → EndsByModel status
+  pub shelf : IsSome (refusal_for words files) → status ≡ ReadFault → Rose before now
 
--- Of the two statuses of a run that was played to its end, TooLong comes exactly where the input has more bytes than a limit.
-pub record HasLimitCause (limit : ℕ) (input : List ℕ) (status : Status) : Type 0 where
-  pub only : status ≡ TooLong → limit < length input
-  pub within : status ≡ Done → length input ≤ limit
+-- Of the two statuses of a run that was played to its end, TooLong comes exactly where the input is too long.
+pub record HasLimitCause (limit : ℕ) (status : Status) (input : List ℕ) : Type 0 where
+  pub only : status ≡ TooLong → is_too_long limit input ≡ true
+  pub within : status ≡ Done → is_too_long limit input ≡ false
 
-abbrev pub HasLengthCause : List ℕ → Status → Type 0
-HasLengthCause input status = HasLimitCause max_input input status
+abbrev pub HasLengthCause : Status → List ℕ → Type 0
+HasLengthCause status input = HasLimitCause max_input status input
+
+-- no count of faults rose in a run, or stands at its last value: of source, shelf and sink, before and now
+pub record NoneRose (source source_now shelf shelf_now sink sink_now : ℕ) : Type 0 where
+  pub of_source : ¬ Rose source source_now
+  pub of_shelf : ¬ Rose shelf shelf_now
+  pub of_sink : ¬ Rose sink sink_now
 
 -- the output's status, or want of memory
 abbrev pub IsComplete : Ending → Status → Type 0
 IsComplete e status = (status ≡ e.status) ⊎ (status ≡ Memory)
 
--- a status of an input that was played
-abbrev pub IsPlayed : Status → Type 0
-IsPlayed Done = ⊤
-IsPlayed TooLong = ⊤
-IsPlayed _ = ⊥
+-- where shelf and source tell their bytes
+abbrev pub RunIsComplete : List (List ℕ) → Option Files → Option (List ℕ) → Status → Type 0
+RunIsComplete words files left status = IfSome files (λ held. IfSome left (λ input. IsComplete (output words held input) status))
 
--- what stops a run is no fault of reading
-abbrev pub IsNoRead : Stop → Type 0
-IsNoRead Read = ⊥
-IsNoRead Write = ⊤
-IsNoRead Wanting = ⊤
+-- The source was taken to its end, or through the piece in which the command ends that ended the run. `before` is what was taken before
+-- that piece.
+pub record TakenByCommand (left now : Option (List ℕ)) : Type 0 where
+  pub before : List ℕ
+  pub front : List ℕ
+  pub rest : List ℕ
+  pub taken : Consumes left now (before ++ (front ++ rest))
+  pub goes_on : (play start (ended before)).over ≡ false
+  pub over : (play start (ended (before ++ front))).over ≡ true
 
--- the causes, of a run that may have been stopped
-pub record StopsByUsage (words : List (List ℕ)) (result : Result Status Stop) : Type 0 where
-  pub only : IfOk result (λ status. status ≡ Usage → model_word words ≡ None)
-  pub always : model_word words ≡ None → MatchResult result (λ status. status ≡ Usage) IsNoRead
+abbrev pub IsTaken : Option (List ℕ) → Option (List ℕ) → Type 0
+IsTaken left now = IsAtEnd now ⊎ TakenByCommand left now
 
-pub record StopsByModel (words : List (List ℕ)) (files : Files) (result : Result Status Stop) : Type 0 where
-  pub only : IfOk result (λ status. status ≡ ModelRefused → IsSome (refusal_for words files))
-  pub always : IsSome (refusal_for words files) → IfOk result (λ status. status ≡ ModelRefused)
+-- The source failed: what was written are the answers to the commands that end in the bytes that were taken.
+pub record AnswersTaken (left now old new : Option (List ℕ)) : Type 0 where
+  pub taken : List ℕ
+  pub from : Consumes left now taken
+  pub written : Appends old new (play start (ended taken)).bytes
 
-abbrev pub StopsByLength : List ℕ → Result Status Stop → Type 0
-StopsByLength input result = IfOk result (HasLengthCause input)
+-- the source is as it was, where the words or the model are refused
+pub record LeavesSource (words : List (List ℕ)) (files : Option Files) (status : Status) (same : Type 0) : Type 0 where
+  pub words_refused : model_word words ≡ None → same
+  pub model_refused : IfSome files (λ held. IsSome (refusal_for words held) → same)
+  pub at_usage : status ≡ Usage → same
+  pub at_model : status ≡ ModelRefused → same

@@ -33,9 +33,13 @@ abbrev pub refusal_of_reading : Reading → Option Refusal
 refusal_of_reading (parsed ts tree) = refusal_of_tree (place_of_first 1 ts) tree
 refusal_of_reading (refused r) = Some r
 
--- why a model file is refused, if it is: there is none, it is too long, a rule of tokens or grammar is broken, or its form is not built yet
+-- why a model of this text is refused, if it is: a rule of tokens or grammar is broken, or its form is not built yet
+abbrev pub refusal_of_text : List ℕ → Option Refusal
+refusal_of_text text = refusal_of_reading (read_model text)
+
+-- why a model file is refused, if it is: there is none, it is too long, or its text is refused
 abbrev pub model_refusal : Option (List ℕ) → Option Refusal
 model_refusal None = Some (refusal_at (code_of F 1) (place_at 0 0))
 model_refusal (Some text) =
     if nat_lt max_model (length text) then Some (refusal_at (code_of F 2) (place_at 0 0))
-    else refusal_of_reading (read_model text)
+    else refusal_of_text text

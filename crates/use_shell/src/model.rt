@@ -1,13 +1,12 @@
-ghost use Rattle.std.specs.Prelude.{◌≡◌, ◌≤◌, ◌==◌, IfOk, IfSome, IsErrOf, IsOkUnless, length};
+ghost use Rattle.std.specs.Prelude.{◌≡◌, ◌≤◌, IfOk, IfSome, IsOkUnless, length};
 ghost use Rattle.std.specs.FinMap.{get};
-ghost use Rattle.use_io.specs.Causes.{Rose};
 ghost use Rattle.use_text.specs.Places.{place_at};
 ghost use Rattle.use_text.specs.Refusals.{refusal_at};
 ghost use Rattle.grammar_core.specs.Arena.{root_tree};
 ghost use Rattle.use_syntax.specs.Language.{language};
-ghost use Rattle.use_syntax.specs.Reading.{read_model};
 ghost use Rattle.use_nodes.specs.Nodes.{place_of_first};
-ghost use Rattle.use_shell.specs.Models.{is_empty_model, refusal_of_tree, unbuilt, refusal_of_reading, model_refusal};
+ghost use Rattle.use_shell.specs.Models.{max_model, is_empty_model, refusal_of_tree, unbuilt, refusal_of_text, model_refusal};
+ghost use Rattle.use_shell.specs.Stops.{StopsByRead};
 
 use crate::stop::Stop;
 use grammar_core::{Grammar, GrammarFault};
@@ -45,7 +44,7 @@ fn refusal_of_tree(parsed: &Parsed) -> Option<Refusal>
 }
 
 /// The grammar of the language.
-fn language(alloc: Global) -> Result<Grammar, Stop>
+pub fn language(alloc: Global) -> Result<Grammar, Stop>
     ensures table { IfOk result (λ g. g ≡ language) }
     ensures memory { IsOkUnless result Stop.Memory }
 {
@@ -56,14 +55,14 @@ fn language(alloc: Global) -> Result<Grammar, Stop>
     }
 }
 
-/// Why a model of this text is refused, if it is.
-fn refusal_of_text(alloc: Global, text: &[u8]) -> Result<Option<Refusal>, Stop>
-    requires { length text.now ≤ 4194304 }
-    ensures refusal { IfOk result (λ refusal. refusal ≡ refusal_of_reading (read_model text.now)) }
+/// Why a model of this text is refused, if it is: the one place where the text of a model is read.
+fn refusal_of_text(alloc: Global, grammar: &Grammar, text: &[u8]) -> Result<Option<Refusal>, Stop>
+    requires table { grammar.now ≡ language }
+    requires text { length text.now ≤ max_model }
+    ensures refusal { IfOk result (λ refusal. refusal ≡ refusal_of_text text.now) }
     ensures memory { IsOkUnless result Stop.Memory }
 {
-    let grammar = language(alloc)?;
-    match read_model(alloc, &grammar, text) {
+    match read_model(alloc, grammar, text) {
         Ok(parsed) => Ok(refusal_of_tree(&parsed)),
         Err(SyntaxFault::Refused(refusal)) => Ok(Some(refusal)),
         Err(SyntaxFault::Memory) => Err(Stop::Memory),
@@ -93,16 +92,16 @@ fn unbuilt(place: Place) -> Option<Refusal>
 /// Why the model of this name is refused, if it is.
 pub fn model_refusal<F: Shelf>(
     alloc: Global,
+    grammar: &Grammar,
     shelf: &mut F,
     name: &str,
 ) -> Result<Option<Refusal>, Stop>
+    requires table { grammar.now ≡ language }
     ensures refusal { IfOk result (λ refusal. IfSome (F.files shelf.old) (λ files. refusal ≡ model_refusal (get files name.now))) }
-    ensures later { F.faults shelf.old ≤ F.faults shelf.new }
-    ensures cause { IsErrOf result Stop.Read → Rose (F.faults shelf.old) (F.faults shelf.new) }
-    ensures no_write { ¬ IsErrOf result Stop.Write }
+    ensures cause { StopsByRead (F.faults shelf.old) (F.faults shelf.new) result }
 {
     match shelf.fetch(alloc, name, MAX_MODEL) {
-        Ok(text) => refusal_of_text(alloc, &text),
+        Ok(text) => refusal_of_text(alloc, grammar, &text),
         Err(ShelfFault::Missing) => Ok(Some(of_file(Code::F1))),
         Err(ShelfFault::TooLong) => Ok(Some(of_file(Code::F2))),
         Err(ShelfFault::Failed) => Err(Stop::Read),

@@ -1,48 +1,31 @@
-ghost use Rattle.std.specs.Prelude.{◌≡◌, ◌≤◌, ◌<◌, IfOk, OnOk, OnErr, IsErrOf, length};
-ghost use Rattle.std.specs.Io.KnownBytes.{Appends};
-ghost use Rattle.use_io.specs.Causes.{Rose};
-ghost use Rattle.use_shell.specs.Endings.{Gathers, AppendsFront};
+ghost use Rattle.std.specs.Prelude.{◌<◌, OnOk, OnErr, IsOkUnless, length};
+ghost use Rattle.std.specs.Io.{ReadsAtMost};
+ghost use Rattle.std.specs.Io.KnownBytes.{Appends, ReadConsumes};
+ghost use Rattle.use_shell.specs.Endings.{AppendsFront};
+ghost use Rattle.use_shell.specs.Stops.{StopsByRead, StopsByWrite};
 
 use crate::stop::Stop;
-use std::alloc::Global;
 use use_io::{Sink, SinkFault, Source};
 
-/// The most bytes of an input.
-pub const MAX_INPUT: usize = 16_777_216;
-
-/// The most bytes that are taken at once.
-const PIECE: usize = 4096;
-
-/// All the bytes, or the first pieces that hold more than an input may.
-pub fn take_all<S: Source>(alloc: Global, source: &mut S) -> Result<Vec<u8>, Stop>
-    ensures bytes { IfOk result (λ v. Gathers (S.left source.old) (S.left source.new) v.items) }
-    ensures later { S.faults source.old ≤ S.faults source.new }
-    ensures cause { IsErrOf result Stop.Read → Rose (S.faults source.old) (S.faults source.new) }
-    ensures no_write { ¬ IsErrOf result Stop.Write }
+/// Takes the next bytes of a source.
+pub fn take_piece<S: Source>(source: &mut S, piece: &mut [u8]) -> Result<usize, Stop>
+    requires { 0 < length piece.old }
+    ensures bound { ReadsAtMost result piece.new }
+    ensures bytes { ReadConsumes (S.left source.old) (S.left source.new) result piece.new }
+    ensures cause { StopsByRead (S.faults source.old) (S.faults source.new) result }
+    ensures only { IsOkUnless result Stop.Read }
 {
-    let mut bytes = Vec::new(alloc);
-    let mut piece = [0u8; PIECE];
-    'pieces: while bytes.len() <= MAX_INPUT {
-        let Ok(count) = source.take(&mut piece) else {
-            return Err(Stop::Read);
-        };
-        if count == 0 {
-            return Ok(bytes);
-        }
-        let Ok(()) = bytes.extend_from_slice(&piece[..count]) else {
-            return Err(Stop::Memory);
-        };
+    match source.take(piece) {
+        Ok(count) => Ok(count),
+        Err(_) => Err(Stop::Read),
     }
-    Ok(bytes)
 }
 
 /// Puts all the bytes. After a fault nothing more is put.
 pub fn put_all<K: Sink>(sink: &mut K, bytes: &[u8]) -> Result<(), Stop>
     ensures ok { OnOk result (Appends (K.written sink.old) (K.written sink.new) bytes.now) }
     ensures err { OnErr result (AppendsFront (K.written sink.old) (K.written sink.new) bytes.now) }
-    ensures later { K.faults sink.old ≤ K.faults sink.new }
-    ensures cause { IsErrOf result Stop.Write → Rose (K.faults sink.old) (K.faults sink.new) }
-    ensures no_read { ¬ IsErrOf result Stop.Read }
+    ensures cause { StopsByWrite (K.faults sink.old) (K.faults sink.new) result }
 {
     let mut at = 0usize;
     'parts: while at < bytes.len() {

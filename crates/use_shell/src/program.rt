@@ -1,30 +1,36 @@
-ghost use Rattle.std.specs.Prelude.{◌≡◌, ◌⊎◌, ◌≤◌, IfOk, IfSome, OnOk, OnErr, IsErrOf};
+ghost use Rattle.std.specs.Prelude.{◌≡◌, ◌⊎◌, IfOk, IfSome, OnOk, OnErr, IsErrOf};
 ghost use Rattle.std.specs.Io.KnownBytes.{Appends};
 ghost use Rattle.use_io.specs.Causes.{Rose};
+ghost use Rattle.use_syntax.specs.Language.{language};
 ghost use Rattle.use_session.specs.Machine.{refusal_line};
 ghost use Rattle.use_shell.specs.Words.{usage_line, words_of};
-ghost use Rattle.use_shell.specs.Output.{of_input, output};
-ghost use Rattle.use_shell.specs.Endings.{AppendsFront, Ends, Finishes, IsFinal, IsPlayed, StopsByUsage, StopsByModel, StopsByLength, HasUsageCause, HasModelCause, HasLengthCause, IsComplete};
+ghost use Rattle.use_shell.specs.Output.{of_input};
+ghost use Rattle.use_shell.specs.Endings.{AppendsFront, RunEnds, HasUsageCause, HasModelCause, HasLengthCause, NoneRose, RunIsComplete, IsTaken, AnswersTaken, LeavesSource};
+ghost use Rattle.use_shell.specs.Finishes.{Finishes, RunFinishes, IsFinal, IsPlayed, StopsByUsage, StopsByModel, StopsByLength, StopsByShelf, FinishesTaken, StopsUntouched};
+ghost use Rattle.use_shell.specs.Stops.{StopsByWrite};
 
 use crate::Status;
-use crate::model::model_refusal;
-use crate::moves::{MAX_INPUT, put_all, take_all};
-use crate::play::play_input;
+use crate::model::{language, model_refusal};
+use crate::moves::put_all;
+use crate::play::play_source;
 use crate::stop::Stop;
 use crate::words::{model_word, usage_line};
+use grammar_core::Grammar;
 use std::alloc::Global;
 use std::sync::ledger::Ledger;
 use use_io::{Shelf, Sink, Source};
 use use_steps::Steps;
 use use_text::Refusal;
 
+/// The most bytes of an input.
+const MAX_INPUT: usize = 16_777_216;
+
 /// Tells how the program is called.
 fn show_usage<K: Sink>(sink: &mut K) -> Result<Status, Stop>
     ensures ok { OnOk result (Appends (K.written sink.old) (K.written sink.new) usage_line) }
     ensures status { IfOk result (λ status. status ≡ Status.Usage) }
     ensures err { OnErr result (AppendsFront (K.written sink.old) (K.written sink.new) usage_line) }
-    ensures cause { IsErrOf result Stop.Write → Rose (K.faults sink.old) (K.faults sink.new) }
-    ensures no_read { ¬ IsErrOf result Stop.Read }
+    ensures cause { StopsByWrite (K.faults sink.old) (K.faults sink.new) result }
 {
     put_all(sink, usage_line().as_bytes())?;
     Ok(Status::Usage)
@@ -35,8 +41,7 @@ fn show_refusal<K: Sink>(alloc: Global, refusal: Refusal, sink: &mut K) -> Resul
     ensures ok { OnOk result (Appends (K.written sink.old) (K.written sink.new) (refusal_line refusal)) }
     ensures status { IfOk result (λ status. status ≡ Status.ModelRefused) }
     ensures err { OnErr result (AppendsFront (K.written sink.old) (K.written sink.new) (refusal_line refusal)) }
-    ensures cause { IsErrOf result Stop.Write → Rose (K.faults sink.old) (K.faults sink.new) }
-    ensures no_read { ¬ IsErrOf result Stop.Read }
+    ensures cause { StopsByWrite (K.faults sink.old) (K.faults sink.new) result }
 {
     let mut line = refusal.to_string(alloc)?;
     line.push_str("\n")?;
@@ -44,22 +49,25 @@ fn show_refusal<K: Sink>(alloc: Global, refusal: Refusal, sink: &mut K) -> Resul
     Ok(Status::ModelRefused)
 }
 
-/// Takes the whole input, and plays it.
-fn play_source<S: Source, K: Sink, L: Ledger>(
+/// Plays the commands of a source.
+fn play_commands<S: Source, K: Sink, L: Ledger>(
     alloc: Global,
+    grammar: Grammar,
     source: &mut S,
     sink: &mut K,
     steps: &mut Steps<L>,
 ) -> Result<Status, Stop>
+    requires { grammar ≡ language }
     ensures bytes { IfSome (S.left source.old) (λ input. Finishes (of_input input) (K.written sink.old) (K.written sink.new) result) }
-    ensures length { IfSome (S.left source.old) (λ input. StopsByLength input result) }
+    ensures length { IfSome (S.left source.old) (StopsByLength result) }
     ensures played { IfOk result IsPlayed }
+    ensures taken { FinishesTaken (S.left source.old) (S.left source.new) result }
+    ensures fault { IsErrOf result Stop.Read → AnswersTaken (S.left source.old) (S.left source.new) (K.written sink.old) (K.written sink.new) }
     ensures read { IsErrOf result Stop.Read → Rose (S.faults source.old) (S.faults source.new) }
     ensures write { IsErrOf result Stop.Write → Rose (K.faults sink.old) (K.faults sink.new) }
     ensures steps { steps.new ≡ steps.old }
 {
-    let input = take_all(alloc, source)?;
-    play_input(alloc, &input, MAX_INPUT, sink, steps)
+    play_source(alloc, grammar, MAX_INPUT, source, sink, steps)
 }
 
 /// Plays the words, and tells how the run ended, or what stopped it.
@@ -71,27 +79,32 @@ fn play_words<F: Shelf, S: Source, K: Sink, L: Ledger>(
     sink: &mut K,
     steps: &mut Steps<L>,
 ) -> Result<Status, Stop>
-    ensures bytes { IfSome (F.files shelf.old) (λ files. IfSome (S.left source.old) (λ input.
-        Finishes (output (words_of words.now) files input) (K.written sink.old) (K.written sink.new) result)) }
+    ensures bytes { RunFinishes (words_of words.now) (F.files shelf.old) (S.left source.old) (K.written sink.old) (K.written sink.new) result }
     ensures usage { StopsByUsage (words_of words.now) result }
-    ensures model { IfSome (F.files shelf.old) (λ files. StopsByModel (words_of words.now) files result) }
-    ensures length { IfSome (S.left source.old) (λ input. StopsByLength input result) }
+    ensures model { IfSome (F.files shelf.old) (StopsByModel (words_of words.now) result) }
+    ensures length { IfSome (S.left source.old) (StopsByLength result) }
     ensures status { IfOk result IsFinal }
+    ensures taken { FinishesTaken (S.left source.old) (S.left source.new) result }
+    ensures untouched { StopsUntouched (words_of words.now) (F.files shelf.old) (source.new ≡ source.old) result }
+    ensures fault { IsErrOf result Stop.Read → ¬ Rose (F.faults shelf.old) (F.faults shelf.new)
+        → AnswersTaken (S.left source.old) (S.left source.new) (K.written sink.old) (K.written sink.new) }
     ensures read { IsErrOf result Stop.Read → Rose (S.faults source.old) (S.faults source.new) ⊎ Rose (F.faults shelf.old) (F.faults shelf.new) }
+    ensures shelf { IfSome (F.files shelf.old) (λ files. StopsByShelf (words_of words.now) files (F.faults shelf.old) (F.faults shelf.new) result) }
     ensures write { IsErrOf result Stop.Write → Rose (K.faults sink.old) (K.faults sink.new) }
     ensures steps { steps.new ≡ steps.old }
 {
     let Some(name) = model_word(words) else {
         return show_usage(sink);
     };
-    match model_refusal(alloc, shelf, name)? {
+    let grammar = language(alloc)?;
+    match model_refusal(alloc, &grammar, shelf, name)? {
         Some(refusal) => show_refusal(alloc, refusal, sink),
-        None => play_source(alloc, source, sink, steps),
+        None => play_commands(alloc, grammar, source, sink, steps),
     }
 }
 
-/// Runs the program: reads the words, the model that they name and the whole input, and writes what
-/// the machine answers. A fault ends it.
+/// Runs the program: reads the words and the model that they name, and then answers the commands of
+/// the source, each as soon as the piece that it ends in is taken. A fault ends it.
 pub fn run<F: Shelf, S: Source, K: Sink, L: Ledger>(
     alloc: Global,
     words: &[String],
@@ -102,20 +115,26 @@ pub fn run<F: Shelf, S: Source, K: Sink, L: Ledger>(
 ) -> Status
     // Where shelf, source and sink tell their bytes: the sink's grew by exactly the output for these words, files and input, and the status
     // is the output's; or a fault came, and they grew by a front of it.
-    ensures bytes { IfSome (F.files shelf.old) (λ files. IfSome (S.left source.old) (λ input.
-        Ends (output (words_of words.now) files input) (K.written sink.old) (K.written sink.new) result)) }
+    ensures bytes { RunEnds (words_of words.now) (F.files shelf.old) (S.left source.old) (K.written sink.old) (K.written sink.new) result }
+
+    // What was taken: all, or through the piece whose command ended the run; and nothing where the words or the model are refused.
+    ensures taken { result ≡ Status.Done → IsTaken (S.left source.old) (S.left source.new) }
+    ensures untouched { LeavesSource (words_of words.now) (F.files shelf.old) result (source.new ≡ source.old) }
+
+    // Where the source failed, every command that ended in what was taken is answered, and nothing else.
+    ensures fault { result ≡ Status.ReadFault → ¬ Rose (F.faults shelf.old) (F.faults shelf.new)
+        → AnswersTaken (S.left source.old) (S.left source.new) (K.written sink.old) (K.written sink.new) }
 
     // Each answer has its cause, in every run.
     ensures usage { HasUsageCause (words_of words.now) result }
-    ensures model { IfSome (F.files shelf.old) (λ files. HasModelCause (words_of words.now) files result) }
-    ensures length { IfSome (S.left source.old) (λ input. HasLengthCause input result) }
+    ensures model { IfSome (F.files shelf.old) (HasModelCause (words_of words.now) (F.faults shelf.old) (F.faults shelf.new) result) }
+    ensures length { IfSome (S.left source.old) (HasLengthCause result) }
     ensures read { result ≡ Status.ReadFault → Rose (S.faults source.old) (S.faults source.new) ⊎ Rose (F.faults shelf.old) (F.faults shelf.new) }
     ensures write { result ≡ Status.WriteFault → Rose (K.faults sink.old) (K.faults sink.new) }
 
     // Where shelf and source tell their bytes and no fault came, the status is the output's, or memory was wanting.
-    ensures complete { IfSome (F.files shelf.old) (λ files. IfSome (S.left source.old) (λ input.
-        ¬ Rose (S.faults source.old) (S.faults source.new) → ¬ Rose (F.faults shelf.old) (F.faults shelf.new) → ¬ Rose (K.faults sink.old) (K.faults sink.new)
-        → IsComplete (output (words_of words.now) files input) result)) }
+    ensures complete { NoneRose (S.faults source.old) (S.faults source.new) (F.faults shelf.old) (F.faults shelf.new) (K.faults sink.old) (K.faults sink.new)
+        → RunIsComplete (words_of words.now) (F.files shelf.old) (S.left source.old) result }
     ensures steps { steps.new ≡ steps.old }
 {
     match play_words(alloc, words, shelf, source, sink, steps) {

@@ -5,25 +5,8 @@ use std::alloc::Global;
 use std::marker::Brand;
 use std::sync::ledger::{Blank, Ledger};
 use std::test::Fail;
-use use_io::{CalmIn, CalmOut, Failed, MemShelf, Sink, SinkFault, Source};
+use use_io::{CalmIn, CalmOut, FaultyIn, MemShelf, Sink, SinkFault};
 use use_steps::Steps;
-
-/// A source that fails at each call.
-#[derive(Drop)]
-struct BrokenIn {
-    faults: u64,
-}
-
-impl Source for BrokenIn {
-    ghost left = { λ s. None };
-
-    ghost faults = { λ s. s.faults };
-
-    fn take(&mut self, _buf: &mut [u8]) -> Result<usize, Failed> {
-        self.faults = self.faults.saturating_add(1);
-        Err(Failed)
-    }
-}
 
 /// A sink that fails at each call.
 #[derive(Drop)]
@@ -190,27 +173,32 @@ fn runs_write_their_output_in_pieces_of_any_size(rt: HostRuntime) -> Result<(), 
     let alloc = rt.alloc();
     for r in RUNS.iter() {
         let input = r.input.as_bytes();
-        let small = played::<Brand>(
-            alloc,
-            r.words,
-            r.model.as_bytes(),
-            input.to_vec(alloc)?,
-            1,
-            Blank::new(1),
-        )?;
-        assert_eq!(rt; small.0.as_slice(), r.output.as_bytes());
-        assert_eq!(rt; small.1, r.status);
-        let large = played::<Brand>(
-            alloc,
-            r.words,
-            r.model.as_bytes(),
-            input.to_vec(alloc)?,
-            4096,
-            Blank::new(1),
-        )?;
-        assert_eq!(rt; large.0.as_slice(), r.output.as_bytes());
-        assert_eq!(rt; large.1, r.status);
+        for piece in 1..input.len() + 2 {
+            let (out, status) = played::<Brand>(
+                alloc,
+                r.words,
+                r.model.as_bytes(),
+                input.to_vec(alloc)?,
+                piece,
+                Blank::new(1),
+            )?;
+            assert_eq!(rt; out.as_slice(), r.output.as_bytes(), "in pieces of {piece}");
+            assert_eq!(rt; status, r.status, "in pieces of {piece}");
+        }
     }
+    Ok(())
+}
+
+#[test]
+fn a_line_of_16_mib_is_one_command(rt: HostRuntime) -> Result<(), Fail> {
+    let alloc = rt.alloc();
+    let line = vec![in alloc; b'?'; 16_777_216]?;
+    let (out, status) = played::<Brand>(alloc, &["M.use"], b"model E", line, 4096, Blank::new(1))?;
+    assert_eq!(rt;
+        out.as_slice(),
+        b"refused K1 at 1:1: command is too long\n".as_slice()
+    );
+    assert_eq!(rt; status, Status::Done);
     Ok(())
 }
 
@@ -229,17 +217,23 @@ fn an_input_past_the_limit_answers_what_ended_within_it(rt: HostRuntime) -> Resu
     Ok(())
 }
 
-// How a run over a source that fails ends.
-fn from_broken<L: Ledger>(alloc: Global, blank: Blank) -> Result<(Vec<u8>, Status), Fail>
+// What a run over a source in pieces of 4 bytes writes that fails at calls, and how it ends.
+fn from_faulty<L: Ledger>(
+    alloc: Global,
+    more: &[&str],
+    model: &[u8],
+    fails: Vec<u64>,
+    blank: Blank,
+) -> Result<(Vec<u8>, Status), Fail>
     requires name { blank.name ≡ L.name }
     requires parts { blank.parts ≡ L.parts }
     requires some { 0 < blank.parts }
 {
     let mut steps = Steps::<L>::new(blank);
-    let mut shelf = shelf_of(alloc, b"model E")?;
-    let mut source = BrokenIn { faults: 0 };
+    let mut shelf = shelf_of(alloc, model)?;
+    let mut source = FaultyIn::new(b"? 1\n? 2\n".to_vec(alloc)?, 4, fails);
     let mut sink = CalmOut::new(alloc);
-    let words = words_of(alloc, &["M.use"])?;
+    let words = words_of(alloc, more)?;
     let status = run(
         alloc,
         &words,
@@ -252,10 +246,42 @@ fn from_broken<L: Ledger>(alloc: Global, blank: Blank) -> Result<(Vec<u8>, Statu
 }
 
 #[test]
-fn a_source_that_fails_ends_the_run(rt: HostRuntime) -> Result<(), Fail> {
-    let (out, status) = from_broken::<Brand>(rt.alloc(), Blank::new(1))?;
-    assert_eq!(rt; out.len(), 0);
-    assert_eq!(rt; status, Status::ReadFault);
+fn a_source_that_fails_ends_the_run_behind_the_answers(rt: HostRuntime) -> Result<(), Fail> {
+    let alloc = rt.alloc();
+    for (call, output, wanted) in [
+        (1, "", Status::ReadFault),
+        (2, "-> 1 : Integer\n", Status::ReadFault),
+        (3, "-> 1 : Integer\n-> 2 : Integer\n", Status::ReadFault),
+        (4, "-> 1 : Integer\n-> 2 : Integer\n", Status::Done),
+    ] {
+        let fails = vec![in alloc; call]?;
+        let (out, status) = from_faulty::<Brand>(
+            alloc,
+            &["M.use"],
+            b"model E",
+            fails,
+            Blank::new(1),
+        )?;
+        assert_eq!(rt; out.as_slice(), output.as_bytes(), "at call {call}");
+        assert_eq!(rt; status, wanted, "at call {call}");
+    }
+    Ok(())
+}
+
+#[test]
+fn refused_words_and_models_are_told_whatever_the_input_does(rt: HostRuntime) -> Result<(), Fail> {
+    let alloc = rt.alloc();
+    let fails = vec![in alloc; 1]?;
+    let (out, status) = from_faulty::<Brand>(alloc, &["M.use"], b"model", fails, Blank::new(1))?;
+    assert_eq!(rt;
+        out.as_slice(),
+        b"refused S1 at 1:6: unexpected token\n".as_slice()
+    );
+    assert_eq!(rt; status, Status::ModelRefused);
+    let fails = vec![in alloc; 1]?;
+    let (out, status) = from_faulty::<Brand>(alloc, &[], b"model E", fails, Blank::new(1))?;
+    assert_eq!(rt; out.as_slice(), USAGE.as_bytes());
+    assert_eq!(rt; status, Status::Usage);
     Ok(())
 }
 

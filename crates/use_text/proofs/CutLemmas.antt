@@ -1,12 +1,16 @@
 -- A cutter and the bytes that it was fed.
-use Rattle.std.proofs.Common.{◌≡◌, ℕ, ◌+◌, ◌<◌, ◌≤◌, List, [], ◌∷◌, ◌++◌, length, drop, arith, refl, sym, ap, ◌∙◌, append_assoc, append-nil, length-append, All, Option, Some, None, IfSome, option_to_list, Result, Ok, Err, OnOk, OnErr}
+use Rattle.std.proofs.Common.{◌≡◌, ℕ, ◌+◌, ◌-◌, ◌<◌, ◌≤◌, List, [], ◌∷◌, ◌++◌, length, take, drop, slice_range, slice_index, arith, refl, sym, ap, subst, ◌∙◌, append_assoc, append-nil, take-add, length-append, All, Option, Some, None, IfSome, option_to_list, Result, Ok, Err, OnOk, OnErr}
+use Rattle.std.specs.Option.{option_map}
 use Rattle.std.specs.declared.alloc.AllocError.{AllocError}
+use Rattle.std.proofs.lemmas.List.{take-append-drop}
 use Rattle.std.proofs.lemmas.List.Elements.{All-push}
 use Rattle.use_text.specs.declared.cut.Cut.{Cut}
-use Rattle.use_text.specs.Lines.{parts, ended_parts, last_part, ended_lines, open_line}
-use Rattle.use_text.specs.Cuts.{Cutting, Block, Extends, StaysEnded, IsFed, IsFinished, IsCommand, line_cuts, block_after, lines_cuts, open_block, cut_off, cuts, ended}
-use Rattle.use_text.specs.Pending.{last_cuts}
-use Rattle.use_text.proofs.LineLemmas.{glue, glue_none, parts_some, ended_cons, last_cons, ended_go_on, open_go_on, lines_some, lines_none}
+use Rattle.use_text.specs.Lines.{parts, ended_parts, ended_lines, open_line, IsInLine}
+use Rattle.use_text.specs.Cuts.{Block, Extends, StaysEnded, IsCommand, line_cuts, block_after, lines_cuts, open_block, cut_off, cuts, ended}
+use Rattle.use_text.specs.Keeping.{Cutting, kept_block, kept_of, IsFed, IsFinished}
+use Rattle.use_text.specs.KeepingSteps.{extended, ended_cuts, kept_after, finished_cuts, last_cuts}
+use Rattle.use_text.proofs.LineLemmas.{glue, ended_go_on, ended_same, open_more, ended_feed, open_feed, range_more, lines_some, lines_none}
+use Rattle.use_text.proofs.KeepingLemmas.{extended_of, ended_of, after_of, finished_of}
 
 pub cuts_append : (n : ℕ) (b : Option Block) (xs ys : List (List ℕ)) → lines_cuts n b (xs ++ ys) ≡ lines_cuts n b xs ++ lines_cuts (n + length xs) (open_block n b xs) ys
 cuts_append n b [] ys = let e : n + 0 ≡ n = omega arith in rw e refl
@@ -20,82 +24,90 @@ block_append n b (x ∷ xs) ys =
     let e : n + length (x ∷ xs) ≡ n + 1 + length xs = omega arith in
     rw (block_append (n + 1) (block_after n b x) xs ys, e) refl
 
--- the parts that a cutter has before it, where a piece goes on from a place
-abbrev pub ahead : Cutting → List ℕ → ℕ → List (List ℕ)
-ahead c piece at = glue c.rest (parts (drop at piece))
-
--- a cutter took a piece up to a place
-pub record IsFedUpTo (old : Cutting) (piece : List ℕ) (new : Cutting) (at : ℕ) : Type 0 where
-  pub within : at ≤ length piece
-  pub few : new.count ≤ old.count + at
-  pub rest : last_part (ahead new piece at) ≡ last_part (ahead old piece 0)
-  pub count : new.count + length (ended_parts (ahead new piece at)) ≡ old.count + length (ended_parts (ahead old piece 0))
-  pub block : open_block (new.count + 1) new.block (ended_parts (ahead new piece at)) ≡ open_block (old.count + 1) old.block (ended_parts (ahead old piece 0))
-  pub waiting : new.waiting ++ lines_cuts (new.count + 1) new.block (ended_parts (ahead new piece at)) ≡ old.waiting ++ lines_cuts (old.count + 1) old.block (ended_parts (ahead old piece 0))
-
-pub fed_nothing : (c : Cutting) (piece : List ℕ) → IsFedUpTo c piece c 0
-fed_nothing c piece = record { within = omega arith; few = omega arith; rest = refl; count = refl; block = refl; waiting = refl }
-
--- a line has ended
-pub record EndsLine (c new : Cutting) (line : List ℕ) : Type 0 where
-  pub rest : new.rest ≡ []
-  pub count : new.count ≡ c.count + 1
-  pub block : new.block ≡ block_after (c.count + 1) c.block line
-  pub waiting : new.waiting ≡ c.waiting ++ line_cuts (c.count + 1) c.block line
-
-pub fed_line : (old : Cutting) (piece : List ℕ) (c new : Cutting) (at end : ℕ) (line : List ℕ) → IsFedUpTo old piece c at → at ≤ end → end < length piece → parts (drop at piece) ≡ line ∷ parts (drop (end + 1) piece) → EndsLine c new (c.rest ++ line) → IsFedUpTo old piece new (end + 1)
-fed_line old piece c new at end line fed le lt is ends =
-    let some = parts_some (drop (end + 1) piece) in
-    let here : ahead c piece at ≡ (c.rest ++ line) ∷ parts (drop (end + 1) piece) = ap (glue c.rest) is in
-    let then : ahead new piece (end + 1) ≡ parts (drop (end + 1) piece) = ap (λ l. glue l (parts (drop (end + 1) piece))) ends.rest ∙ glue_none (drop (end + 1) piece) in
-    let ended : ended_parts (ahead c piece at) ≡ (c.rest ++ line) ∷ ended_parts (ahead new piece (end + 1)) = ap ended_parts here ∙ ended_cons (c.rest ++ line) (parts (drop (end + 1) piece)) some ∙ ap (λ l. (c.rest ++ line) ∷ ended_parts l) (sym then) in
-    let last : last_part (ahead c piece at) ≡ last_part (ahead new piece (end + 1)) = ap last_part here ∙ last_cons (c.rest ++ line) (parts (drop (end + 1) piece)) some ∙ ap last_part (sym then) in
-    record {
-      within = omega arith;
-      few = omega (arith, fed.few, ends.count);
-      rest = sym last ∙ fed.rest;
-      count = omega (arith, fed.count, ends.count, ap length ended);
-      block = rw (ends.block, ends.count) (ap (open_block (c.count + 1) c.block) (sym ended) ∙ fed.block);
-      waiting = rw (ends.waiting, ends.block, ends.count, append_assoc) (ap (λ l. c.waiting ++ lines_cuts (c.count + 1) c.block l) (sym ended) ∙ fed.waiting);
-    }
-
--- the open line goes on
-pub record GoesOnBy (c new : Cutting) (more : List ℕ) : Type 0 where
-  pub rest : new.rest ≡ c.rest ++ more
-  pub count : new.count ≡ c.count
-  pub block : new.block ≡ c.block
-  pub waiting : new.waiting ≡ c.waiting
-
-pub fed_all : (old : Cutting) (piece : List ℕ) (c new : Cutting) (at : ℕ) → IsFedUpTo old piece c at → parts (drop at piece) ≡ drop at piece ∷ [] → GoesOnBy c new (drop at piece) → IsFed old piece new
-fed_all old piece c new at fed is on bytes stands =
-    let here : ahead c piece at ≡ (c.rest ++ drop at piece) ∷ [] = ap (glue c.rest) is in
-    let before : ahead old piece 0 ≡ glue (open_line bytes) (parts piece) = ap (λ l. glue l (parts piece)) stands.rest in
-    let rest_now : new.rest ≡ open_line (bytes ++ piece) = on.rest ∙ sym (ap last_part here) ∙ fed.rest ∙ ap last_part before ∙ sym (open_go_on bytes piece) in
-    let none : ended_parts (ahead c piece at) ≡ [] = ap ended_parts here in
-    let lines : ended_lines (bytes ++ piece) ≡ ended_lines bytes ++ ended_parts (ahead old piece 0) = ended_go_on bytes piece ∙ ap (λ l. ended_lines bytes ++ ended_parts l) (sym before) in
-    let more = lines_cuts (1 + length (ended_lines bytes)) (open_block 1 None (ended_lines bytes)) (ended_parts (ahead old piece 0)) in
-    let all : ended (bytes ++ piece) ≡ ended bytes ++ more = ap (lines_cuts 1 None) lines ∙ cuts_append 1 None (ended_lines bytes) (ended_parts (ahead old piece 0)) in
-    let first : old.count + 1 ≡ 1 + length (ended_lines bytes) = omega (arith, stands.count) in
-    let block_is : open_block 1 None (ended_lines (bytes ++ piece)) ≡ open_block (1 + length (ended_lines bytes)) (open_block 1 None (ended_lines bytes)) (ended_parts (ahead old piece 0)) = ap (open_block 1 None) lines ∙ block_append 1 None (ended_lines bytes) (ended_parts (ahead old piece 0)) in
-    let block_old : open_block (1 + length (ended_lines bytes)) (open_block 1 None (ended_lines bytes)) (ended_parts (ahead old piece 0)) ≡ open_block (old.count + 1) old.block (ended_parts (ahead old piece 0)) = rw (stands.block, first) refl in
-    let block_now : new.block ≡ open_block (old.count + 1) old.block (ended_parts (ahead old piece 0)) = on.block ∙ ap (open_block (c.count + 1) c.block) (sym none) ∙ fed.block in
-    let same : new.waiting ≡ old.waiting ++ lines_cuts (old.count + 1) old.block (ended_parts (ahead old piece 0)) = on.waiting ∙ sym (append-nil c.waiting) ∙ ap (λ l. c.waiting ++ lines_cuts (c.count + 1) c.block l) (sym none) ∙ fed.waiting in
+-- within a line
+pub goes_on : (c on : Cutting) (more : List ℕ) → IsInLine more → on.kept ≡ extended c.kept more → on.count ≡ c.count → on.waiting ≡ c.waiting → IsFed c more on
+goes_on c on more line kept_is count_is waiting_is bytes stands =
+    let same = ended_same bytes more line in
+    let b = open_block 1 None (ended_lines bytes) in
     record {
       stands = record {
-        rest = rest_now;
-        count = on.count ∙ omega (arith, fed.count, stands.count, ap length none, ap length lines, length-append (ended_lines bytes) (ended_parts (ahead old piece 0)));
-        block = block_now ∙ sym block_old ∙ sym block_is;
+        count = count_is ∙ stands.count ∙ ap length (sym same);
+        kept = kept_is ∙ ap (λ k. extended k more) stands.kept ∙ extended_of b (open_line bytes) more ∙ ap (kept_of b) (sym (open_more bytes more line)) ∙ ap (λ ls. kept_of (open_block 1 None ls) (open_line (bytes ++ more))) (sym same);
       };
-      more = more;
-      commands = all;
-      waiting = same ∙ rw (first, stands.block) refl;
+      more = [];
+      commands = ap (lines_cuts 1 None) same ∙ sym (append-nil (ended bytes));
+      waiting = waiting_is ∙ sym (append-nil c.waiting);
     }
 
-pub finished : (c : Cutting) (more : List Cut) → more ≡ last_cuts (c.count + 1) c.block c.rest → IsFinished c more
-finished c more is bytes stands = last (open_line bytes) refl ∙ ap (λ l. ended bytes ++ l) (sym (is ∙ rw (stands.rest, stands.block, first) refl))
+-- at a line feed
+pub ends_line : (on new : Cutting) → new.kept ≡ kept_after (on.count + 1) on.kept.block on.kept → new.count ≡ on.count + 1 → new.waiting ≡ on.waiting ++ ended_cuts (on.count + 1) on.kept.block on.kept → IsFed on (10 ∷ []) new
+ends_line on new kept_is count_is waiting_is bytes stands =
+    let es = ended_lines bytes in
+    let line = open_line bytes in
+    let b = open_block 1 None es in
+    let n : on.count + 1 ≡ 1 + length es = omega (arith, stands.count) in
+    let found : ended_cuts (on.count + 1) on.kept.block on.kept ≡ line_cuts (1 + length es) b line = ap (λ k. ended_cuts (on.count + 1) k.block k) stands.kept ∙ ap (λ m. ended_cuts m (option_map kept_block b) (kept_of b line)) n ∙ ended_of (1 + length es) b line in
+    let after : kept_after (on.count + 1) on.kept.block on.kept ≡ kept_of (block_after (1 + length es) b line) [] = ap (λ k. kept_after (on.count + 1) k.block k) stands.kept ∙ ap (λ m. kept_after m (option_map kept_block b) (kept_of b line)) n ∙ after_of (1 + length es) b line in
+    let block : open_block 1 None (es ++ line ∷ []) ≡ block_after (1 + length es) b line = block_append 1 None es (line ∷ []) in
+    record {
+      stands = record {
+        count = count_is ∙ omega (arith, stands.count, ap length (ended_feed bytes), length-append es (line ∷ []));
+        kept = kept_is ∙ after ∙ ap (λ x. kept_of x []) (sym block) ∙ ap (λ ls. kept_of (open_block 1 None ls) []) (sym (ended_feed bytes)) ∙ ap (kept_of (open_block 1 None (ended_lines (bytes ++ 10 ∷ [])))) (sym (open_feed bytes));
+      };
+      more = line_cuts (1 + length es) b line;
+      commands = ap (lines_cuts 1 None) (ended_feed bytes) ∙ cuts_append 1 None es (line ∷ []) ∙ ap (λ x. ended bytes ++ x) (append-nil (line_cuts (1 + length es) b line));
+      waiting = waiting_is ∙ ap (λ x. on.waiting ++ x) found;
+    }
+
+-- one piece after another
+pub fed_then : (a b c : Cutting) (p q : List ℕ) → IsFed a p b → IsFed b q c → IsFed a (p ++ q) c
+fed_then a b c p q first second bytes stands =
+    let f = first bytes stands in
+    let s = second (bytes ++ p) f.stands in
+    let all : bytes ++ (p ++ q) ≡ (bytes ++ p) ++ q = sym (append_assoc bytes p q) in
+    record {
+      stands = rw all s.stands;
+      more = f.more ++ s.more;
+      commands = ap ended all ∙ s.commands ∙ ap (λ l. l ++ s.more) f.commands ∙ append_assoc (ended bytes) f.more s.more;
+      waiting = s.waiting ∙ ap (λ l. l ++ s.more) f.waiting ∙ append_assoc a.waiting f.more s.more;
+    }
+
+pub fed_none : (c : Cutting) → IsFed c [] c
+fed_none c bytes stands =
+    let same : bytes ++ [] ≡ bytes = append-nil bytes in
+    record {
+      stands = rw same stands;
+      more = [];
+      commands = ap ended same ∙ sym (append-nil (ended bytes));
+      waiting = sym (append-nil c.waiting);
+    }
+
+pub fed_range : (old c new : Cutting) (piece : List ℕ) (at end : ℕ) → at ≤ end → IsFed old (take at piece) c → IsFed c (slice_range piece at end) new → IsFed old (take end piece) new
+fed_range old c new piece at end le first second =
+    let e : at + (end - at) ≡ end = omega arith in
+    let whole : take end piece ≡ take at piece ++ slice_range piece at end = ap (λ n. take n piece) (sym e) ∙ take-add at (end - at) piece in
+    rw whole (fed_then old c new (take at piece) (slice_range piece at end) first second)
+
+pub fed_line : (old c on new : Cutting) (piece : List ℕ) (at end : ℕ) → at ≤ end → end < length piece → slice_index piece end ≡ 10 → IsFed old (take at piece) c → IsFed c (slice_range piece at end) on → IsFed on (10 ∷ []) new → IsFed old (take (end + 1) piece) new
+fed_line old c on new piece at end le lt is first second feed =
+    let range : slice_range piece at (end + 1) ≡ slice_range piece at end ++ 10 ∷ [] = range_more piece at end le lt ∙ ap (λ b. slice_range piece at end ++ b ∷ []) is in
+    fed_range old c new piece at (end + 1) (omega arith) first (rw range (fed_then c on new (slice_range piece at end) (10 ∷ []) second feed))
+
+pub fed_all : (old c new : Cutting) (piece : List ℕ) (at : ℕ) → IsFed old (take at piece) c → IsFed c (drop at piece) new → IsFed old piece new
+fed_all old c new piece at first second =
+    let whole : piece ≡ take at piece ++ drop at piece = sym (take-append-drop at piece) in
+    subst (λ l. IsFed old l new) (sym whole) (fed_then old c new (take at piece) (drop at piece) first second)
+
+pub finished : (c : Cutting) (more : List Cut) → more ≡ finished_cuts (c.count + 1) c.kept.block c.kept → IsFinished c more
+finished c more is bytes stands = last (open_line bytes) refl ∙ ap (λ l. ended bytes ++ l) (sym (is ∙ found))
   where
     first : c.count + 1 ≡ 1 + length (ended_lines bytes)
     first = omega (arith, stands.count)
+
+    found : finished_cuts (c.count + 1) c.kept.block c.kept ≡ last_cuts (1 + length (ended_lines bytes)) (open_block 1 None (ended_lines bytes)) (open_line bytes)
+    found =
+        let b = open_block 1 None (ended_lines bytes) in
+        ap (λ k. finished_cuts (c.count + 1) k.block k) stands.kept ∙ ap (λ m. finished_cuts m (option_map kept_block b) (kept_of b (open_line bytes))) first ∙ finished_of (1 + length (ended_lines bytes)) b (open_line bytes)
 
     last : (rest : List ℕ) → open_line bytes ≡ rest → cuts bytes ≡ ended bytes ++ last_cuts (1 + length (ended_lines bytes)) (open_block 1 None (ended_lines bytes)) rest
     last [] at = ap (λ ls. lines_cuts 1 None ls ++ cut_off (open_block 1 None ls)) (lines_none bytes at)
@@ -137,12 +149,3 @@ commands_more n waiting (Some c) all one = All-push (IsCommand (n + 1)) waiting 
 pub commands_pushed : (n : ℕ) (old new : List Cut) (c : Option Cut) (r : Result (Unit {0}) AllocError) → OnOk r (new ≡ old ++ option_to_list c) → OnErr r (new ≡ old) → All (IsCommand n) old → IfSome c (IsCommand (n + 1)) → All (IsCommand (n + 1)) new
 commands_pushed n old new c (Ok u) ok err all one = rw ok (commands_more n old c all one)
 commands_pushed n old new c (Err e) ok err all one = rw err (λ k d lt. command_later n (n + 1) _ (omega arith) (all k d lt))
-
--- an open line goes on and then ends
-pub ends_line : (c on new : Cutting) (more : List ℕ) → GoesOnBy c on more → EndsLine on new on.rest → EndsLine c new (c.rest ++ more)
-ends_line c on new more goes ends = record {
-  rest = ends.rest;
-  count = omega (arith, ends.count, goes.count);
-  block = ends.block ∙ rw (goes.rest, goes.count, goes.block) refl;
-  waiting = ends.waiting ∙ rw (goes.rest, goes.count, goes.block, goes.waiting) refl;
-}

@@ -2,7 +2,7 @@ pub mod PieceLemmas
 pub mod TokenLemmas
 pub mod LineLemmas
 pub mod CutLemmas
-pub mod PendingLemmas
+pub mod KeepingLemmas
 pub mod LexemeLemmas
 pub mod MarkLemmas
 pub mod FrontLemmas

@@ -1,17 +1,13 @@
 -- The lines of bytes that come in pieces.
-use Rattle.std.proofs.Common.{◌≡◌, ◌≢◌, ℕ, ◌+◌, ◌-◌, ◌<◌, ◌≤◌, ◌==◌, Bool, true, false, if◌then◌else◌, List, [], ◌∷◌, ◌++◌, length, drop, slice_index, slice_range, arith, refl, sym, ap, ◌∙◌, append_assoc, length-drop}
-use Rattle.std.proofs.lemmas.List.{drop_more, take_more, get_or-drop}
+use Rattle.std.proofs.Common.{◌≡◌, ◌≢◌, ℕ, ◌+◌, ◌-◌, ◌<◌, ◌≤◌, ◌==◌, Bool, true, false, if◌then◌else◌, List, [], ◌∷◌, ◌++◌, length, drop, slice_index, slice_range, arith, refl, sym, ap, ◌∙◌, append-nil, length-drop}
+use Rattle.std.proofs.lemmas.List.{take_more, get_or-drop}
 use Rattle.std.proofs.lemmas.Bool.Decides.{nat_tests}
-use Rattle.use_text.specs.Lines.{onto_first, parts, ended_parts, counted_parts, last_part, lines, ended_lines, open_line}
+use Rattle.use_text.specs.Lines.{onto_first, parts, ended_parts, counted_parts, last_part, lines, ended_lines, open_line, IsInLine}
 
 -- bytes in front of the first part
 abbrev pub glue : List ℕ → List (List ℕ) → List (List ℕ)
 glue xs [] = xs ∷ []
 glue xs (part ∷ parts) = (xs ++ part) ∷ parts
-
-glue_onto : (xs : List ℕ) (b : ℕ) (ps : List (List ℕ)) → glue xs (onto_first b ps) ≡ glue (xs ++ b ∷ []) ps
-glue_onto xs b [] = refl
-glue_onto xs b (p ∷ ps) = ap (λ l. l ∷ ps) (sym (append_assoc xs (b ∷ []) p))
 
 glue_nil : (ps : List (List ℕ)) (b : ℕ) → glue [] (onto_first b ps) ≡ onto_first b ps
 glue_nil [] b = refl
@@ -57,19 +53,6 @@ range_more xs i j le lt =
     let e : j + 1 - i ≡ j - i + 1 = omega arith in
     let f : i + (j - i) ≡ j = omega arith in
     rw (e, take_more (drop i xs) (j - i) 0 (omega (arith, length-drop i xs)), get_or-drop i xs (j - i) 0, f) refl
-
--- a line begins
-pub line_begins : (xs : List ℕ) (i : ℕ) → parts (drop i xs) ≡ glue (slice_range xs i i) (parts (drop i xs))
-line_begins xs i = rw (range_none xs i) (sym (glue_none (drop i xs)))
-
--- a line goes on by a byte that is no line feed
-pub line_goes_on : (xs : List ℕ) (i j : ℕ) → i ≤ j → j < length xs → slice_index xs j ≢ 10 → parts (drop i xs) ≡ glue (slice_range xs i j) (parts (drop j xs)) → parts (drop i xs) ≡ glue (slice_range xs i (j + 1)) (parts (drop (j + 1) xs))
-line_goes_on xs i j le lt dark is =
-    let at_j : parts (drop j xs) ≡ onto_first (slice_index xs j) (parts (drop (j + 1) xs)) = rw (drop_more xs j 0 lt) (other (slice_index xs j) (parts (drop (j + 1) xs)) dark) in
-    is ∙ ap (glue (slice_range xs i j)) at_j ∙ glue_onto (slice_range xs i j) (slice_index xs j) (parts (drop (j + 1) xs)) ∙ ap (λ l. glue l (parts (drop (j + 1) xs))) (sym (range_more xs i j le lt))
-  where
-    other : (b : ℕ) (ps : List (List ℕ)) → b ≢ 10 → (if b == 10 then [] ∷ ps else onto_first b ps) ≡ onto_first b ps
-    other b ps h = grind (arith, nat_tests)
 
 -- there is a part
 abbrev pub HasPart : List (List ℕ) → Type 0
@@ -160,3 +143,33 @@ lines_some bs b rest is = ap counted_parts (parts_end bs ∙ ap (λ l. ended_lin
 
 pub lines_none : (bs : List ℕ) → open_line bs ≡ [] → lines bs ≡ ended_lines bs
 lines_none bs is = ap counted_parts (parts_end bs ∙ ap (λ l. ended_lines bs ++ l ∷ []) is) ∙ counted_empty (ended_lines bs)
+
+-- bytes that go on within a line
+pub ended_same : (bs more : List ℕ) → IsInLine more → ended_lines (bs ++ more) ≡ ended_lines bs
+ended_same bs more is = ended_go_on bs more ∙ ap (λ ps. ended_lines bs ++ ended_parts (glue (open_line bs) ps)) is ∙ append-nil (ended_lines bs)
+
+pub open_more : (bs more : List ℕ) → IsInLine more → open_line (bs ++ more) ≡ open_line bs ++ more
+open_more bs more is = open_go_on bs more ∙ ap (λ ps. last_part (glue (open_line bs) ps)) is
+
+-- a line feed
+pub ended_feed : (bs : List ℕ) → ended_lines (bs ++ 10 ∷ []) ≡ ended_lines bs ++ open_line bs ∷ []
+ended_feed bs = ended_go_on bs (10 ∷ []) ∙ ap (λ l. ended_lines bs ++ l ∷ []) (append-nil (open_line bs))
+
+pub open_feed : (bs : List ℕ) → open_line (bs ++ 10 ∷ []) ≡ []
+open_feed bs = open_go_on bs (10 ∷ [])
+
+pub in_line_begins : (xs : List ℕ) (i : ℕ) → IsInLine (slice_range xs i i)
+in_line_begins xs i = rw (range_none xs i) refl
+
+-- one more byte that is no line feed
+pub in_line_goes_on : (xs : List ℕ) (i j : ℕ) → i ≤ j → j < length xs → slice_index xs j ≢ 10 → IsInLine (slice_range xs i j) → IsInLine (slice_range xs i (j + 1))
+in_line_goes_on xs i j le lt dark is = rw (range_more xs i j le lt) (in_line_push (slice_range xs i j) (slice_index xs j) dark is)
+  where
+    one : (b : ℕ) → b ≢ 10 → parts (b ∷ []) ≡ (b ∷ []) ∷ []
+    one b h = rw (other b h) refl
+      where
+        other : (b : ℕ) → b ≢ 10 → (b == 10) ≡ false
+        other b h = grind (arith, nat_tests)
+
+    in_line_push : (ys : List ℕ) (b : ℕ) → b ≢ 10 → IsInLine ys → IsInLine (ys ++ b ∷ [])
+    in_line_push ys b h is = parts_go_on ys (b ∷ []) ∙ ap (λ ps. ended_parts ps ++ glue (last_part ps) (parts (b ∷ []))) is ∙ ap (glue ys) (one b h)

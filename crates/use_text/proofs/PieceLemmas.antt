@@ -15,7 +15,7 @@ use Rattle.use_text.specs.declared.piece.Piece.TheVariants.{White, Token, Bad}
 use Rattle.use_text.specs.declared.words.TheConstants.{SYMBOLS}
 use Rattle.use_text.specs.Codes.{code_of}
 use Rattle.use_text.specs.Pieces.{is_white, is_letter, is_digit, is_name_byte, is_in_line, same_text, begins, number_of_digits, word_kind, word_piece, number_piece, string_end, string_piece, comment_end, comment_piece, at_piece, symbol_among, symbol_piece, mark_piece, piece_of}
-use Rattle.use_text.specs.Tokens.{IsFront}
+use Rattle.use_text.specs.TokenSteps.{IsFront}
 
 within_take : (p : ℕ → Bool) (bs : List ℕ) → length (take_while p bs) ≤ length bs
 within_take p bs = grind (arith, common_steps)

@@ -1,17 +1,18 @@
 -- Reading a piece, and then what follows it.
 use Rattle.std.proofs.Common.{◌≡◌, ℕ, zero, suc, ◌+◌, ◌-◌, ◌<◌, ◌≤◌, List, [], ◌∷◌, ◌++◌, length, take, drop, Option, Some, None, Ok, Err, arith, refl, ap, ◌∙◌, append_assoc, append-nil, option_to_list, length-drop, All, IfSome}
 use Rattle.std.proofs.lemmas.List.Elements.{All-push}
-use Rattle.std.proofs.lemmas.List.{drop-drop}
+use Rattle.std.proofs.lemmas.List.{drop-drop, length-take}
 use Rattle.use_text.specs.declared.place.Place.{Place}
 use Rattle.use_text.specs.declared.token.Token.{Token as TokenAt}
 use Rattle.use_text.specs.declared.token.TokenKind.{TokenKind}
 use Rattle.use_text.specs.declared.token.TokenKind.TheVariants.{End}
 use Rattle.use_text.specs.declared.code.Code.{Code}
 use Rattle.use_text.specs.declared.piece.Piece.TheVariants.{White, Token, Bad}
-use Rattle.use_text.specs.Places.{place_at, behind, behind_all}
+use Rattle.use_text.specs.Places.{place_at, behind, behind_all, IsAdvanced}
 use Rattle.use_text.specs.Pieces.{piece_of}
 use Rattle.use_text.specs.Refusals.{refusal_at}
-use Rattle.use_text.specs.Tokens.{Tokens, token_at, before, before_all, after_step, reading, tokens_from, IsPieceAt, IsWithin}
+use Rattle.use_text.specs.Tokens.{Tokens, token_at, before, reading, tokens_from, IsWithin}
+use Rattle.use_text.specs.TokenSteps.{before_all, after_step, IsPieceAt}
 
 -- the bytes of a piece that has begun are passed over
 pub skipped : (n at : ℕ) (place : Place) (end : TokenAt) (bs : List ℕ) → n ≤ length bs → tokens_from n at place end bs ≡ tokens_from 0 (at + n) (behind_all place (take n bs)) end (drop n bs)
@@ -71,3 +72,10 @@ token_at_place text kind at n place to end piece is =
 pub within_some : (len : ℕ) (ts : List TokenAt) (t : Option TokenAt) → All (IsWithin len) ts → IfSome t (IsWithin len) → All (IsWithin len) (ts ++ option_to_list t)
 within_some len ts None all one = rw (append-nil ts) all
 within_some len ts (Some t) all one = All-push (IsWithin len) ts t all one
+
+-- bytes that are passed advance by their number at most
+pub advanced_by : (text : List ℕ) (at n : ℕ) (from to : Place) → IsAdvanced from to (length (take (at + n - at) (drop at text))) → IsAdvanced from to (at + n - at)
+advanced_by text at n from to by = record {
+  line = omega (arith, by.line, length-take (at + n - at) (drop at text));
+  col = omega (arith, by.col, length-take (at + n - at) (drop at text));
+}

@@ -1,7 +1,7 @@
 -- The codes of refusals and their texts.
 use Rattle.std.specs.Prelude.{ℕ, ◌==◌, if◌then◌else◌, List, [], ◌∷◌, ◌++◌, codes}
-use Rattle.use_text.specs.declared.texts.TheConstants.{K_TEXTS, L_TEXTS, S_TEXTS, M_TEXTS, N_TEXTS, T_TEXTS, X_TEXTS, B_TEXTS, C_TEXTS, U_TEXTS, F_TEXTS, V_TEXTS}
 use Rattle.std.specs.Fmt.{decimal}
+use Rattle.use_text.specs.Texts.{k_texts, l_texts, s_texts, m_texts, n_texts, t_texts, x_texts, b_texts, c_texts, u_texts, f_texts, v_texts}
 use Rattle.use_text.specs.declared.code.Code.{Code}
 use Rattle.use_text.specs.declared.code.Family.{Family}
 use Rattle.use_text.specs.declared.code.Family.TheVariants.{K, L, S, M, N, T, X, B, C, U, F, V}
@@ -28,25 +28,25 @@ abbrev pub code_text : Code → List ℕ
 code_text c = letter_of c.family ++ decimal c.number
 
 -- the text of a number among rows, or none
-abbrev pub text_among : {A : Type 0} → List (ℕ × A) → (A → List ℕ) → ℕ → List ℕ
-text_among [] text n = []
-text_among (row ∷ rows) text n = if row.0 == n then text row.1 else text_among rows text n
+abbrev pub text_among : List (ℕ × List ℕ) → ℕ → List ℕ
+text_among [] n = []
+text_among (row ∷ rows) n = if row.0 == n then row.1 else text_among rows n
 
--- the text of a number of a family
-abbrev pub text_in : Family → ℕ → List ℕ
-text_in K n = text_among K_TEXTS (λ t. t.now) n
-text_in L n = text_among L_TEXTS (λ t. t.now) n
-text_in S n = text_among S_TEXTS (λ t. t.now) n
-text_in M n = text_among M_TEXTS (λ t. t.now) n
-text_in N n = text_among N_TEXTS (λ t. t.now) n
-text_in T n = text_among T_TEXTS (λ t. t.now) n
-text_in X n = text_among X_TEXTS (λ t. t.now) n
-text_in B n = text_among B_TEXTS (λ t. t.now) n
-text_in C n = text_among C_TEXTS (λ t. t.now) n
-text_in U n = text_among U_TEXTS (λ t. t.now) n
-text_in F n = text_among F_TEXTS (λ t. t.now) n
-text_in V n = text_among V_TEXTS (λ t. t.now) n
+-- the texts of a family
+abbrev pub texts_of : Family → List (ℕ × List ℕ)
+texts_of K = k_texts
+texts_of L = l_texts
+texts_of S = s_texts
+texts_of M = m_texts
+texts_of N = n_texts
+texts_of T = t_texts
+texts_of X = x_texts
+texts_of B = b_texts
+texts_of C = c_texts
+texts_of U = u_texts
+texts_of F = f_texts
+texts_of V = v_texts
 
 -- the text of a code, which is empty where there is no such code
 unfoldable pub text_of : Code → List ℕ
-text_of c = text_in c.family c.number
+text_of c = text_among (texts_of c.family) c.number

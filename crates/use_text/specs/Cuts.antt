@@ -4,14 +4,11 @@ use Rattle.std.specs.Option.{unwrap_or}
 use Rattle.use_text.specs.declared.cut.Cut.{Cut}
 use Rattle.use_text.specs.declared.cut.Fate.{Fate}
 use Rattle.use_text.specs.declared.cut.Fate.TheVariants.{Whole, TooLong, Unfinished}
-use Rattle.use_text.specs.Lines.{lines, ended_lines, open_line, is_idle_line, is_opening_line, is_closing_line}
+use Rattle.use_text.specs.Limits.{max_command}
+use Rattle.use_text.specs.Lines.{lines, ended_lines, is_idle_line, is_opening_line, is_closing_line}
 
 abbrev pub cut_of : List ℕ → ℕ → Fate → Cut
 cut_of text line fate = record { text = text; first_line = line; fate = fate }
-
--- the most bytes of a command
-abbrev pub max_command : ℕ
-max_command = 65536
 
 -- a command of this text, which is too long or else has this fate
 abbrev pub sized_cut : List ℕ → ℕ → Fate → Cut
@@ -66,34 +63,6 @@ cuts bytes = lines_cuts 1 None (lines bytes) ++ cut_off (open_block 1 None (line
 -- the commands that have ended, of an input that may go on
 abbrev pub ended : List ℕ → List Cut
 ended bytes = lines_cuts 1 None (ended_lines bytes)
-
--- what a cutter holds: the open line, how many lines have ended, the open block, and the commands that it has not given yet
-pub record Cutting : Type 0 where
-  pub rest : List ℕ
-  pub count : ℕ
-  pub block : Option Block
-  pub waiting : List Cut
-
--- the cutter was fed these bytes
-pub record StandsFor (c : Cutting) (bytes : List ℕ) : Type 0 where
-  pub rest : c.rest ≡ open_line bytes
-  pub count : c.count ≡ length (ended_lines bytes)
-  pub block : c.block ≡ open_block 1 None (ended_lines bytes)
-
--- The cutter was fed these bytes, and then a piece: it stands for both, and the commands that ended by the piece wait.
-pub record FeedsOn (old : Cutting) (bytes piece : List ℕ) (new : Cutting) : Type 0 where
-  pub stands : StandsFor new (bytes ++ piece)
-  pub more : List Cut
-  pub commands : ended (bytes ++ piece) ≡ ended bytes ++ more
-  pub waiting : new.waiting ≡ old.waiting ++ more
-
--- the same, whatever it was fed before
-abbrev pub IsFed : Cutting → List ℕ → Cutting → Type 0
-IsFed old piece new = (bytes : List ℕ) → StandsFor old bytes → FeedsOn old bytes piece new
-
--- whatever it was fed, these are the commands of the whole input beyond those that have ended
-abbrev pub IsFinished : Cutting → List Cut → Type 0
-IsFinished old more = (bytes : List ℕ) → StandsFor old bytes → cuts bytes ≡ ended bytes ++ more
 
 -- these commands, and then more
 abbrev pub Extends : List Cut → List Cut → Type 0

@@ -1,10 +1,15 @@
+pub mod Limits
 pub mod Places
+pub mod Texts
 pub mod Codes
+pub mod CodeRows
 pub mod Refusals
 pub mod Kinds
 pub mod Pieces
 pub mod Tokens
+pub mod TokenSteps
 pub mod Lines
 pub mod Cuts
-pub mod Pending
+pub mod Keeping
+pub mod KeepingSteps
 pub mod Lexemes

@@ -1,5 +1,5 @@
 -- The lines of bytes.
-use Rattle.std.specs.Prelude.{ℕ, ◌==◌, Bool, true, false, ◌||◌, ◌&&◌, if◌then◌else◌, List, [], ◌∷◌, length, drop, take_while, codes}
+use Rattle.std.specs.Prelude.{ℕ, ◌==◌, Bool, true, false, ◌||◌, ◌&&◌, if◌then◌else◌, List, [], ◌∷◌, length, drop, take_while, codes, ◌≡◌}
 use Rattle.std.specs.List.{list_all}
 use Rattle.use_text.specs.Pieces.{begins}
 
@@ -11,6 +11,10 @@ onto_first b (part ∷ parts) = (b ∷ part) ∷ parts
 abbrev pub parts : List ℕ → List (List ℕ)
 parts [] = [] ∷ []
 parts (b ∷ bytes) = if b == 10 then [] ∷ parts bytes else onto_first b (parts bytes)
+
+-- no line feed is among the bytes
+abbrev pub IsInLine : List ℕ → Type 0
+IsInLine bytes = parts bytes ≡ bytes ∷ []
 
 -- all but the last part
 abbrev pub ended_parts : List (List ℕ) → List (List ℕ)

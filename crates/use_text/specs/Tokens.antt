@@ -1,5 +1,5 @@
 -- The tokens of a text, or the refusal of the first bytes that are none.
-use Rattle.std.specs.Prelude.{ℕ, zero, suc, ◌≡◌, ◌+◌, ◌-◌, ◌<◌, ◌≤◌, List, [], ◌∷◌, ◌++◌, Option, Some, None, Result, Ok, Err, ⊤, length, take, drop, ◌==◌, if◌then◌else◌}
+use Rattle.std.specs.Prelude.{ℕ, zero, suc, ◌≡◌, ◌+◌, ◌-◌, ◌≤◌, List, [], ◌∷◌, Result, Ok, Err, ⊤, length, take, ◌==◌, if◌then◌else◌}
 use Rattle.std.specs.Str.Lossy.{utf8_valid_len}
 use Rattle.use_text.specs.declared.code.Family.TheVariants.{L}
 use Rattle.use_text.specs.Codes.{code_of}
@@ -56,16 +56,6 @@ tokens first_line text =
     if utf8_valid_len text == length text then tokens_of_utf8 first_line text
     else Err (refusal_at (code_of L 1) (utf8_end first_line text))
 
--- what was read and then what follows
-abbrev pub after_step : Option TokenAt → Tokens → Tokens
-after_step None more = more
-after_step (Some t) more = before t more
-
--- these tokens, and then those that follow
-abbrev pub before_all : List TokenAt → Tokens → Tokens
-before_all ts (Ok more) = Ok (ts ++ more)
-before_all ts (Err r) = Err r
-
 -- the answer of a lexer: the tokens, or their refusal
 abbrev pub Lexes : Tokens → Result (List TokenAt) LexFault → Type 0
 Lexes given (Ok ts) = given ≡ Ok ts
@@ -75,21 +65,3 @@ Lexes given (Err (Refused r)) = given ≡ Err r
 -- the token stands in a text of this length
 abbrev pub IsWithin : ℕ → TokenAt → Type 0
 IsWithin len t = (t.start ≤ t.end) × (t.end ≤ len)
-
--- the piece is not empty, and no longer than what it stands at the front of
-abbrev pub IsFront : Piece → ℕ → Type 0
-IsFront (White n) count = (0 < n) × (n ≤ count)
-IsFront (Token kind n) count = (0 < n) × (n ≤ count)
-IsFront (Bad code) count = ⊤
-
--- a piece of so many bytes stands at a place of the text
-pub record IsPieceAt (text : List ℕ) (at : ℕ) (piece : Piece) (count : ℕ) : Type 0 where
-  pub is : piece_of (drop at text) ≡ piece
-  pub some : 0 < count
-  pub within : at + count ≤ length text
-
--- the numbers of a place in a text that is not too long have room for what follows
-pub record IsNearStart (text : List ℕ) (at : ℕ) (place : Place) : Type 0 where
-  pub short : length text ≤ 4194304
-  pub line : place.line ≤ 4000000000 + at
-  pub col : place.col ≤ 1 + at

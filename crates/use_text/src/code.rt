@@ -1,5 +1,6 @@
 ghost use Rattle.std.specs.Prelude.{◌≡◌};
-ghost use Rattle.use_text.specs.Codes.{text_among, text_in, text_of};
+ghost use Rattle.use_text.specs.Codes.{text_among, texts_of, text_of};
+ghost use Rattle.use_text.specs.CodeRows.{rows_of};
 
 use crate::texts;
 use std::fmt;
@@ -139,7 +140,7 @@ impl Code {
 
 /// The text of a number among rows, or an empty one.
 fn text_among(rows: &[(u8, &'static str)], number: u8) -> &'static str
-    ensures { result.now ≡ text_among rows.now (λ t. t.now) number }
+    ensures { result.now ≡ text_among (rows_of rows.now (λ t. t.now)) number }
 {
     'rows: for row in rows {
         if row.0 == number {
@@ -149,22 +150,23 @@ fn text_among(rows: &[(u8, &'static str)], number: u8) -> &'static str
     ""
 }
 
-fn text_in(family: Family, number: u8) -> &'static str
-    ensures { result.now ≡ text_in family number }
+/// The texts of a family, each with its number.
+fn texts_of(family: Family) -> &'static [(u8, &'static str)]
+    ensures { rows_of result.now (λ t. t.now) ≡ texts_of family }
 {
     match family {
-        Family::K => text_among(&texts::K_TEXTS, number),
-        Family::L => text_among(&texts::L_TEXTS, number),
-        Family::S => text_among(&texts::S_TEXTS, number),
-        Family::M => text_among(&texts::M_TEXTS, number),
-        Family::N => text_among(&texts::N_TEXTS, number),
-        Family::T => text_among(&texts::T_TEXTS, number),
-        Family::X => text_among(&texts::X_TEXTS, number),
-        Family::B => text_among(&texts::B_TEXTS, number),
-        Family::C => text_among(&texts::C_TEXTS, number),
-        Family::U => text_among(&texts::U_TEXTS, number),
-        Family::F => text_among(&texts::F_TEXTS, number),
-        Family::V => text_among(&texts::V_TEXTS, number),
+        Family::K => &texts::K_TEXTS,
+        Family::L => &texts::L_TEXTS,
+        Family::S => &texts::S_TEXTS,
+        Family::M => &texts::M_TEXTS,
+        Family::N => &texts::N_TEXTS,
+        Family::T => &texts::T_TEXTS,
+        Family::X => &texts::X_TEXTS,
+        Family::B => &texts::B_TEXTS,
+        Family::C => &texts::C_TEXTS,
+        Family::U => &texts::U_TEXTS,
+        Family::F => &texts::F_TEXTS,
+        Family::V => &texts::V_TEXTS,
     }
 }
 
@@ -174,5 +176,5 @@ fn text_in(family: Family, number: u8) -> &'static str
 pub fn text_of(code: Code) -> &'static str
     ensures { result.now ≡ text_of code }
 {
-    text_in(code.family, code.number)
+    text_among(texts_of(code.family), code.number)
 }

@@ -1,5 +1,8 @@
 ghost use Rattle.std.specs.Prelude.{◌≡◌, [], ◌++◌, ◌+◌, ◌<◌, ◌≤◌, IfSome, IfNone, OnOk, OnErr, length, option_to_list};
-ghost use Rattle.use_text.specs.Cuts.{StandsFor, StaysEnded, IsFed, IsFinished, IsCommand, line_cuts, block_after};
+ghost use Rattle.use_text.specs.Cuts.{StaysEnded, IsCommand};
+ghost use Rattle.use_text.specs.Limits.{max_command, max_lines};
+ghost use Rattle.use_text.specs.Keeping.{StandsFor, IsFed, IsFinished};
+ghost use Rattle.use_text.specs.KeepingSteps.{extended, ended_cuts, kept_after};
 
 use crate::Cut;
 use crate::line::line_end;
@@ -7,12 +10,12 @@ use crate::pending::Pending;
 use std::alloc::{AllocError, Global};
 use std::collections::VecDeque;
 use std::marker::Model;
-use std::mem;
 
 /// Cuts a stream into commands, in whatever pieces it comes. A line ends at LF, and the last one may
 /// lack it. A line that is white, or a comment alone, gives no command. A line that is `\` between
 /// white opens a block, and the next line that is `.` between white ends it: the block is one
-/// command. Every other line is one.
+/// command. Every other line is one. Of a command that has not ended it holds no more bytes than a
+/// command may have, however long it is.
 #[derive(Drop)]
 pub struct Cutter {
     alloc: Global,
@@ -23,15 +26,16 @@ pub struct Cutter {
 
 impl Model for Cutter {
     ghost use Rattle.std.specs.Prelude.{All, ◌≤◌, ◌+◌};
-    ghost use Rattle.use_text.specs.Cuts.{Cutting, IsCommand};
+    ghost use Rattle.use_text.specs.Cuts.{IsCommand};
+    ghost use Rattle.use_text.specs.Limits.{max_command, max_lines};
+    ghost use Rattle.use_text.specs.Keeping.{Cutting};
+    ghost use Rattle.use_text.specs.KeepingSteps.{first_of};
 
     ghost Value = { Cutting };
 
-    ghost use Rattle.use_text.specs.Pending.{pending_line, pending_block, first_pending};
+    ghost view = { λ c. record { count = c.count; kept = c.pending.kept; held = c.pending.held; waiting = c.waiting.items } };
 
-    ghost view = { λ c. record { rest = pending_line c.pending; count = c.count; block = pending_block c.pending; waiting = c.waiting.items } };
-
-    ghost invariant = { λ c. (c.count ≤ 4000000000) × (first_pending c.pending ≤ c.count + 1) × All (IsCommand c.count) c.waiting.items };
+    ghost invariant = { λ c. (c.count ≤ max_lines) × (first_of c.pending.kept.block ≤ c.count + 1) × All (IsCommand c.count) c.waiting.items × (c.pending.held ≤ max_command) };
 }
 
 impl Cutter {
@@ -40,10 +44,11 @@ impl Cutter {
         ensures stands { StandsFor result [] }
         ensures waiting { result.waiting ≡ [] }
         ensures stays { StaysEnded }
+        ensures bound { result.held ≤ max_command }
     {
         Cutter {
             alloc,
-            pending: Pending::Line(Vec::new(alloc)),
+            pending: Pending::new(alloc),
             count: 0,
             waiting: VecDeque::new(alloc),
         }
@@ -51,9 +56,12 @@ impl Cutter {
 
     /// Takes the next bytes of the stream. After an `Err` the cutter stands for no bytes.
     pub fn feed(&mut self, piece: &[u8]) -> Result<(), AllocError>
-        requires { self.old.count + length piece.now ≤ 4000000000 }
+        requires { self.old.count + length piece.now ≤ max_lines }
         ensures fed { OnOk result (IsFed self.old piece.now self.new) }
         ensures lines { OnOk result (self.new.count ≤ self.old.count + length piece.now) }
+
+        // However long a command is, it holds no more of it than this many bytes before it has ended.
+        ensures bound { self.new.held ≤ max_command }
     {
         let mut at = 0usize;
         'lines: while let Some(end) = line_end(piece, at) {
@@ -69,7 +77,7 @@ impl Cutter {
     pub fn next(&mut self) -> Option<Cut>
         ensures given { self.old.waiting ≡ option_to_list result ++ self.new.waiting }
         ensures none { IfNone result (self.old.waiting ≡ []) }
-        ensures rest { (self.new.rest ≡ self.old.rest) × (self.new.count ≡ self.old.count) × (self.new.block ≡ self.old.block) }
+        ensures rest { (self.new.kept ≡ self.old.kept) × (self.new.count ≡ self.old.count) × (self.new.held ≡ self.old.held) }
         ensures command { IfSome result (IsCommand self.old.count) }
     {
         self.waiting.pop_front()
@@ -83,39 +91,35 @@ impl Cutter {
         ensures command { IfSome result (IsCommand (self.old.count + 2)) }
         ensures stands { StandsFor self.new [] }
         ensures waiting { self.new.waiting ≡ [] }
+        ensures bound { self.new.held ≤ max_command }
     {
-        let pending = mem::replace(&mut self.pending, Pending::Line(Vec::new(self.alloc)));
         let number = self.count + 1;
         self.count = 0;
-        pending.last_cut(self.alloc, number)
+        self.pending.finish(self.alloc, number)
     }
 
     /// The open line goes on.
     fn extend(&mut self, more: &[u8]) -> Result<(), AllocError>
-        ensures rest { OnOk result (self.new.rest ≡ self.old.rest ++ more.now) }
-        ensures block { OnOk result (self.new.block ≡ self.old.block) }
+        ensures kept { OnOk result (self.new.kept ≡ extended self.old.kept more.now) }
         ensures count { self.new.count ≡ self.old.count }
         ensures waiting { self.new.waiting ≡ self.old.waiting }
+        ensures bound { self.new.held ≤ max_command }
     {
-        let pending = mem::replace(&mut self.pending, Pending::Line(Vec::new(self.alloc)));
-        self.pending = pending.with_bytes(more)?;
-        Ok(())
+        self.pending.extend(more)
     }
 
     /// The open line has ended.
     fn end_line(&mut self) -> Result<(), AllocError>
-        requires { self.old.count < 4000000000 }
-        ensures rest { OnOk result (self.new.rest ≡ []) }
+        requires { self.old.count < max_lines }
+        ensures kept { OnOk result (self.new.kept ≡ kept_after (self.old.count + 1) self.old.kept.block self.old.kept) }
         ensures count { OnOk result (self.new.count ≡ self.old.count + 1) }
-        ensures block { OnOk result (self.new.block ≡ block_after (self.old.count + 1) self.old.block self.old.rest) }
-        ensures waiting { OnOk result (self.new.waiting ≡ self.old.waiting ++ line_cuts (self.old.count + 1) self.old.block self.old.rest) }
+        ensures waiting { OnOk result (self.new.waiting ≡ self.old.waiting ++ ended_cuts (self.old.count + 1) self.old.kept.block self.old.kept) }
+        ensures bound { self.new.held ≤ max_command }
     {
-        let pending = mem::replace(&mut self.pending, Pending::Line(Vec::new(self.alloc)));
         let number = self.count + 1;
-        let after = pending.after_line(self.alloc, number)?;
+        let cut = self.pending.end_line(self.alloc, number)?;
         self.count = number;
-        self.pending = after.pending;
-        push_if_some(&mut self.waiting, after.cut)
+        push_if_some(&mut self.waiting, cut)
     }
 }
 

@@ -1,7 +1,9 @@
 ghost use Rattle.std.specs.Prelude.{◌≡◌, ◌+◌, ◌<◌, ◌≤◌, ◌^◌, ◌-◌, length, drop, IfOk, IfErr, IfSome, IfNone, OnOk, All, ◌++◌, option_to_list};
 ghost use Rattle.std.specs.Str.Lossy.{utf8_valid_len};
 ghost use Rattle.use_text.specs.Places.{behind, behind_all, IsAdvanced};
-ghost use Rattle.use_text.specs.Tokens.{tokens, tokens_of_utf8, utf8_end, tokens_from, after_step, Lexes, IsWithin, IsFront, IsPieceAt, IsNearStart};
+ghost use Rattle.use_text.specs.Tokens.{tokens, tokens_of_utf8, utf8_end, tokens_from, Lexes, IsWithin};
+ghost use Rattle.use_text.specs.TokenSteps.{IsFront, IsPieceAt, IsNearStart, ReadsOn};
+ghost use Rattle.use_text.specs.Limits.{max_lines, max_text};
 ghost use Rattle.use_text.specs.Pieces.{piece_of};
 ghost use Rattle.use_text.specs.declared.piece.Piece.TheVariants.{White, Token as TokenPiece};
 
@@ -97,11 +99,7 @@ fn white_step(text: &[u8], at: usize, place: Place, end: Token, count: usize) ->
     requires white { IsPieceAt text.now at (White count) count }
     requires near { IsNearStart text.now at place }
     requires end { IsWithin (length text.now) end }
-    ensures read { tokens_from 0 at place end (drop at text.now) ≡ after_step result.token (tokens_from 0 result.at result.place result.end (drop result.at text.now)) }
-    ensures ahead { result.at ≡ at + count }
-    ensures near { IsAdvanced place result.place count }
-    ensures token { IfSome result.token (IsWithin (length text.now)) }
-    ensures end { IsWithin (length text.now) result.end }
+    ensures { ReadsOn text.now at place end result }
 {
     Step {
         token: None,
@@ -123,11 +121,7 @@ fn token_step(
     requires token { IsPieceAt text.now at (TokenPiece kind count) count }
     requires near { IsNearStart text.now at place }
     requires end { IsWithin (length text.now) end }
-    ensures read { tokens_from 0 at place end (drop at text.now) ≡ after_step result.token (tokens_from 0 result.at result.place result.end (drop result.at text.now)) }
-    ensures ahead { result.at ≡ at + count }
-    ensures near { IsAdvanced place result.place count }
-    ensures token { IfSome result.token (IsWithin (length text.now)) }
-    ensures end { IsWithin (length text.now) result.end }
+    ensures { ReadsOn text.now at place end result }
 {
     let start = at as u32;
     let stop = (at + count) as u32;
@@ -157,12 +151,8 @@ fn next_step(text: &[u8], at: usize, place: Place, end: Token) -> Result<Step, R
     requires within { at < length text.now }
     requires near { IsNearStart text.now at place }
     requires end { IsWithin (length text.now) end }
-    ensures ok { IfOk result (λ s. tokens_from 0 at place end (drop at text.now) ≡ after_step s.token (tokens_from 0 s.at s.place s.end (drop s.at text.now))) }
+    ensures ok { IfOk result (ReadsOn text.now at place end) }
     ensures bad { IfErr result (λ r. tokens_from 0 at place end (drop at text.now) ≡ Err r) }
-    ensures ahead { IfOk result (λ s. (at < s.at) × (s.at ≤ length text.now)) }
-    ensures near { IfOk result (λ s. IsAdvanced place s.place (s.at - at)) }
-    ensures token { IfOk result (λ s. IfSome s.token (IsWithin (length text.now))) }
-    ensures end { IfOk result (λ s. IsWithin (length text.now) s.end) }
 {
     match piece_at(text, at) {
         Piece::White { length } => Ok(white_step(text, at, place, end, length)),
@@ -180,14 +170,15 @@ fn push_if_some(tokens: &mut Vec<Token>, token: Option<Token>) -> Result<(), All
     Ok(())
 }
 
-/// The tokens of a text that is UTF-8.
-fn lex_utf8(alloc: Global, text: &[u8], first_line: u32) -> Result<Tokens, LexFault>
-    requires text { length text.now ≤ 4194304 }
-    requires line { first_line ≤ 4000000000 }
+/// The tokens of a text that is UTF-8, in the room of other tokens.
+fn lex_utf8(old: Tokens, text: &[u8], first_line: u32) -> Result<Tokens, LexFault>
+    requires text { length text.now ≤ max_text }
+    requires line { first_line ≤ max_lines }
     ensures tokens { Lexes (tokens_of_utf8 first_line text.now) result }
     ensures within { IfOk result (All (IsWithin (length text.now))) }
 {
-    let mut tokens = Vec::new(alloc);
+    let mut tokens = old.into_vec();
+    tokens.clear();
     let mut at = 0usize;
     let mut place = Place {
         line: first_line,
@@ -215,8 +206,8 @@ fn lex_utf8(alloc: Global, text: &[u8], first_line: u32) -> Result<Tokens, LexFa
 
 /// The place of the first byte that is not UTF-8, if there is one.
 fn first_fault(text: &[u8], first_line: u32) -> Option<Place>
-    requires text { length text.now ≤ 4194304 }
-    requires line { first_line ≤ 4000000000 }
+    requires text { length text.now ≤ max_text }
+    requires line { first_line ≤ max_lines }
     ensures fault { IfSome result (λ place. (utf8_valid_len text.now < length text.now) × (place ≡ utf8_end first_line text.now)) }
     ensures none { IfNone result (utf8_valid_len text.now ≡ length text.now) }
 {
@@ -233,8 +224,18 @@ fn first_fault(text: &[u8], first_line: u32) -> Option<Place>
 /// The tokens of a text whose first line has this number. A text that is not UTF-8 is refused L1 at
 /// its first byte that is not; else the first bytes that begin no token are, by L2 to L5.
 pub fn lex(alloc: Global, text: &[u8], first_line: u32) -> Result<Tokens, LexFault>
-    requires text { length text.now ≤ 4194304 }
-    requires line { first_line ≤ 4000000000 }
+    requires text { length text.now ≤ max_text }
+    requires line { first_line ≤ max_lines }
+    ensures tokens { Lexes (tokens first_line text.now) result }
+    ensures within { IfOk result (All (IsWithin (length text.now))) }
+{
+    lex_into(Items::new(alloc), text, first_line)
+}
+
+/// The same, in the room of tokens that are no longer wanted.
+pub fn lex_into(old: Tokens, text: &[u8], first_line: u32) -> Result<Tokens, LexFault>
+    requires text { length text.now ≤ max_text }
+    requires line { first_line ≤ max_lines }
     ensures tokens { Lexes (tokens first_line text.now) result }
     ensures within { IfOk result (All (IsWithin (length text.now))) }
 {
@@ -243,6 +244,6 @@ pub fn lex(alloc: Global, text: &[u8], first_line: u32) -> Result<Tokens, LexFau
             code: Code::L1,
             place,
         })),
-        None => lex_utf8(alloc, text, first_line),
+        None => lex_utf8(old, text, first_line),
     }
 }

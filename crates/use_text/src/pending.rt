@@ -1,214 +1,267 @@
-ghost use Rattle.std.specs.Prelude.{◌≡◌, ◌≤◌, ◌<◌, ◌+◌, ◌++◌, ◌∷◌, [], ℕ, Some, None, false, IfOk, IfSome, length, drop, option_to_list};
-ghost use Rattle.use_text.specs.Lines.{is_opening_line};
-ghost use Rattle.use_text.specs.Cuts.{block_of, joined, sized_cut, block_cut, line_cuts, block_after, IsCommand};
-ghost use Rattle.use_text.specs.Pending.{text_before, pending_line, pending_block, first_pending, last_cuts};
+ghost use Rattle.std.specs.Prelude.{◌≡◌, ◌≤◌, ◌+◌, IfSome, OnSome, OnOk, OnErr, IfOk, vec_len, option_to_list, None};
+ghost use Rattle.std.specs.Option.{option_map};
+ghost use Rattle.use_text.specs.Cuts.{IsCommand};
+ghost use Rattle.use_text.specs.Limits.{max_command, max_lines};
+ghost use Rattle.use_text.specs.KeepingSteps.{nothing, extended, ended_cuts, kept_after, finished_cuts, text_cut, first_of, block_begun, block_on, lines_end, held_text};
 
 use crate::block::OpenBlock;
-use crate::line::{is_closing_line, is_idle_line, is_opening_line};
+use crate::marks::LineMarks;
 use crate::{Bytes, Cut, Fate};
 use std::alloc::{AllocError, Global};
+use std::marker::Model;
+use std::mem;
 
 /// The most bytes of a command.
 const MAX_COMMAND: usize = 65536;
 
-/// What of the stream has not ended yet.
+/// What of the stream has not ended: an open line, and the open block, if the line is in one.
 #[derive(Drop)]
-pub enum Pending {
-    /// An open line outside of blocks.
-    Line(Vec<u8>),
-    /// An open block, with its open line.
-    Block(OpenBlock),
+pub struct Pending {
+    /// The text so far of the command, or of the block's lines that have ended, where that text is
+    /// too long and this one is not.
+    bytes: Vec<u8>,
+    /// Whether the text so far is longer than a command may be.
+    is_long: bool,
+    marks: LineMarks,
+    block: Option<OpenBlock>,
 }
 
-/// The command that a line gave, if it did, and what is open behind it.
-#[derive(Drop)]
-pub struct AfterLine {
-    pub cut: Option<Cut>,
-    pub pending: Pending,
-}
+impl Model for Pending {
+    ghost use Rattle.std.specs.Prelude.{◌≤◌, vec_len};
+    ghost use Rattle.std.specs.Option.{option_map};
+    ghost use Rattle.use_text.specs.Limits.{max_command};
+    ghost use Rattle.use_text.specs.Keeping.{Kept};
+    ghost use Rattle.use_text.specs.KeepingSteps.{Holding, held_text, held_block, lines_end};
 
-/// A command of this text.
-fn sized_cut(text: Vec<u8>, first_line: u32, fate: Fate) -> Cut
-    ensures cut { result ≡ sized_cut text.items first_line fate }
-    ensures command { IsCommand first_line result }
-{
-    let mut text = text;
-    let fate = if text.len() <= MAX_COMMAND {
-        fate
-    } else {
-        text.clear();
-        Fate::TooLong
-    };
-    Cut {
-        text: Bytes::from_vec(text),
-        first_line,
-        fate,
-    }
-}
+    ghost Value = { Holding };
 
-/// The command of a block, without its open line.
-fn block_cut(block: OpenBlock, fate: Fate) -> Cut
-    ensures cut { result ≡ block_cut (block_of block.first_line (text_before block.start block.bytes.items)) fate }
-    ensures command { IsCommand block.first_line result }
-{
-    let mut bytes = block.bytes;
-    bytes.truncate(block.start.saturating_sub(1));
-    sized_cut(bytes, block.first_line, fate)
-}
+    ghost view = { λ p. record {
+      kept = record { marks = p.marks; text = held_text p.is_long p.bytes.items; block = option_map (held_block p.bytes.items) p.block };
+      held = vec_len p.bytes;
+    } };
 
-/// The block with its open line.
-fn with_line(block: OpenBlock) -> Result<OpenBlock, AllocError>
-    ensures text { IfOk result (λ b. text_before b.start b.bytes.items ≡ Some (joined (text_before block.start block.bytes.items) (drop block.start block.bytes.items))) }
-    ensures line { IfOk result (λ b. drop b.start b.bytes.items ≡ []) }
-    ensures first { IfOk result (λ b. b.first_line ≡ block.first_line) }
-{
-    let mut bytes = block.bytes;
-    bytes.push(b'\n')?;
-    let start = bytes.len();
-    Ok(OpenBlock {
-        first_line: block.first_line,
-        bytes,
-        start,
-    })
-}
-
-/// Behind a line with this number, outside of blocks.
-fn after_plain_line(alloc: Global, line: Vec<u8>, number: u32) -> AfterLine
-    requires { number ≤ 4000000000 }
-    ensures cut { option_to_list result.cut ≡ line_cuts number None line.items }
-    ensures block { pending_block result.pending ≡ block_after number None line.items }
-    ensures line { pending_line result.pending ≡ [] }
-    ensures command { IfSome result.cut (IsCommand number) }
-    ensures first { first_pending result.pending ≤ number + 1 }
-{
-    let empty = Vec::new(alloc);
-    if is_opening_line(&line) {
-        return AfterLine {
-            cut: None,
-            pending: Pending::Block(OpenBlock {
-                first_line: number + 1,
-                bytes: empty,
-                start: 0,
-            }),
-        };
-    }
-    AfterLine {
-        cut: plain_cut(line, number),
-        pending: Pending::Line(empty),
-    }
-}
-
-/// The command of a line with this number, outside of blocks, that opens none.
-fn plain_cut(line: Vec<u8>, number: u32) -> Option<Cut>
-    requires { is_opening_line line.items ≡ false }
-    ensures cut { option_to_list result ≡ line_cuts number None line.items }
-    ensures command { IfSome result (IsCommand number) }
-{
-    if is_idle_line(&line) {
-        None
-    } else {
-        Some(sized_cut(line, number, Fate::Whole))
-    }
-}
-
-/// Behind a line with this number, in a block.
-fn after_block_line(alloc: Global, block: OpenBlock, number: u32) -> Result<AfterLine, AllocError>
-    requires { block.first_line ≤ number }
-    ensures cut { IfOk result (λ a. option_to_list a.cut ≡ line_cuts number (pending_block (Pending.Block block)) (drop block.start block.bytes.items)) }
-    ensures block { IfOk result (λ a. pending_block a.pending ≡ block_after number (pending_block (Pending.Block block)) (drop block.start block.bytes.items)) }
-    ensures line { IfOk result (λ a. pending_line a.pending ≡ []) }
-    ensures command { IfOk result (λ a. IfSome a.cut (IsCommand number)) }
-    ensures first { IfOk result (λ a. first_pending a.pending ≤ number + 1) }
-{
-    if is_closing_line(block.open_line()) {
-        return Ok(AfterLine {
-            cut: Some(block_cut(block, Fate::Whole)),
-            pending: Pending::Line(Vec::new(alloc)),
-        });
-    }
-    Ok(AfterLine {
-        cut: None,
-        pending: Pending::Block(with_line(block)?),
-    })
+    ghost invariant = { λ p. (vec_len p.bytes ≤ max_command) × (lines_end p.block ≤ vec_len p.bytes) };
 }
 
 impl Pending {
-    /// Behind the open line, which has ended and has this number.
-    pub fn after_line(self, alloc: Global, number: u32) -> Result<AfterLine, AllocError>
-        requires number { number ≤ 4000000000 }
-        requires first { first_pending self ≤ number }
-        ensures cut { IfOk result (λ a. option_to_list a.cut ≡ line_cuts number (pending_block self) (pending_line self)) }
-        ensures block { IfOk result (λ a. pending_block a.pending ≡ block_after number (pending_block self) (pending_line self)) }
-        ensures line { IfOk result (λ a. pending_line a.pending ≡ []) }
-        ensures command { IfOk result (λ a. IfSome a.cut (IsCommand number)) }
-        ensures first { IfOk result (λ a. first_pending a.pending ≤ number + 1) }
+    /// An empty line, outside of blocks.
+    pub fn new(alloc: Global) -> Pending
+        ensures kept { result.kept ≡ nothing }
+        ensures bound { result.held ≤ max_command }
     {
-        match self {
-            Pending::Line(line) => Ok(after_plain_line(alloc, line, number)),
-            Pending::Block(block) => after_block_line(alloc, block, number),
+        Pending {
+            bytes: Vec::new(alloc),
+            is_long: false,
+            marks: LineMarks::of(&[]),
+            block: None,
         }
     }
 
-    /// The open line with more bytes.
-    pub fn with_bytes(self, more: &[u8]) -> Result<Pending, AllocError>
-        ensures line { IfOk result (λ p. pending_line p ≡ pending_line self ++ more.now) }
-        ensures block { IfOk result (λ p. pending_block p ≡ pending_block self) }
-        ensures first { IfOk result (λ p. first_pending p ≡ first_pending self) }
+    /// More bytes of the open line.
+    pub fn extend(&mut self, more: &[u8]) -> Result<(), AllocError>
+        ensures kept { OnOk result (self.new.kept ≡ extended self.old.kept more.now) }
+        ensures first { first_of self.new.kept.block ≡ first_of self.old.kept.block }
+        ensures bound { self.new.held ≤ max_command }
     {
-        match self {
-            Pending::Line(line) => Ok(Pending::Line(extended(line, more)?)),
-            Pending::Block(block) => Ok(Pending::Block(OpenBlock {
-                first_line: block.first_line,
-                bytes: extended(block.bytes, more)?,
-                start: block.start,
-            })),
+        self.marks = self.marks.with(more);
+        if self.is_long {
+            return Ok(());
         }
+        if more.len() > MAX_COMMAND - self.bytes.len() {
+            self.is_long = true;
+            self.bytes.truncate(end_of_lines(self.block));
+            return Ok(());
+        }
+        self.bytes.extend_from_slice(more)
     }
 
-    /// The command that the input's end makes of what is open; the open line has this number.
-    pub fn last_cut(self, alloc: Global, number: u32) -> Option<Cut>
-        requires number { number ≤ 4000000000 + 1 }
-        requires first { first_pending self ≤ number }
-        ensures cut { option_to_list result ≡ last_cuts number (pending_block self) (pending_line self) }
+    /// The open line has ended, and has this number. What it gives, if it is a command or ends a
+    /// block, is taken out.
+    pub fn end_line(&mut self, alloc: Global, number: u32) -> Result<Option<Cut>, AllocError>
+        requires number { number ≤ max_lines }
+        requires first { first_of self.old.kept.block ≤ number }
+        ensures cut { IfOk result (λ cut. option_to_list cut ≡ ended_cuts number self.old.kept.block self.old.kept) }
+        ensures kept { OnOk result (self.new.kept ≡ kept_after number self.old.kept.block self.old.kept) }
+        ensures command { IfOk result (λ cut. IfSome cut (IsCommand number)) }
+        ensures first { OnOk result (first_of self.new.kept.block ≤ number + 1) }
+        ensures err { OnErr result (first_of self.new.kept.block ≡ first_of self.old.kept.block) }
+        ensures bound { self.new.held ≤ max_command }
+    {
+        if self.block.is_none() {
+            return Ok(self.end_plain_line(alloc, number));
+        }
+        if self.marks.is_only(b'.') {
+            return Ok(self.take_lines(alloc, Fate::Whole));
+        }
+        self.go_on()?;
+        Ok(None)
+    }
+
+    /// The command that the input's end makes of what is open, if there is one; the open line has
+    /// this number.
+    pub fn finish(&mut self, alloc: Global, number: u32) -> Option<Cut>
+        requires number { number ≤ max_lines + 1 }
+        requires first { first_of self.old.kept.block ≤ number }
+        ensures cut { option_to_list result ≡ finished_cuts number self.old.kept.block self.old.kept }
+        ensures kept { self.new.kept ≡ nothing }
         ensures command { IfSome result (IsCommand (number + 1)) }
+        ensures bound { self.new.held ≤ max_command }
     {
-        match self {
-            Pending::Line(line) => last_plain_cut(alloc, line, number),
-            Pending::Block(block) => Some(last_block_cut(block)),
+        let marks = self.marks;
+        match self.block {
+            None => self.finish_plain_line(alloc, number),
+            Some(block) => {
+                if marks.is_only(b'.') {
+                    self.take_lines(alloc, Fate::Whole)
+                } else if marks.begun {
+                    Some(self.take_text(alloc, block.first_line, Fate::Unfinished))
+                } else {
+                    self.take_lines(alloc, Fate::Unfinished)
+                }
+            }
         }
     }
+
+    /// The open line has ended outside of blocks.
+    fn end_plain_line(&mut self, alloc: Global, number: u32) -> Option<Cut>
+        requires { number ≤ max_lines }
+        ensures cut { option_to_list result ≡ ended_cuts number None self.old.kept }
+        ensures kept { self.new.kept ≡ kept_after number None self.old.kept }
+        ensures command { IfSome result (IsCommand number) }
+        ensures bound { self.new.held ≤ max_command }
+    {
+        if self.marks.is_only(b'\\') {
+            self.begin_block(number + 1);
+            None
+        } else if self.marks.is_idle() {
+            self.restart();
+            None
+        } else {
+            Some(self.take_text(alloc, number, Fate::Whole))
+        }
+    }
+
+    /// The input has ended in an open line outside of blocks.
+    fn finish_plain_line(&mut self, alloc: Global, number: u32) -> Option<Cut>
+        requires { number ≤ max_lines + 1 }
+        ensures cut { option_to_list result ≡ finished_cuts number None self.old.kept }
+        ensures kept { self.new.kept ≡ nothing }
+        ensures command { IfSome result (IsCommand (number + 1)) }
+        ensures bound { self.new.held ≤ max_command }
+    {
+        if self.marks.is_only(b'\\') {
+            self.restart();
+            Some(text_cut(Vec::new(alloc), false, number + 1, Fate::Unfinished))
+        } else if self.marks.is_idle() {
+            self.restart();
+            None
+        } else {
+            Some(self.take_text(alloc, number, Fate::Whole))
+        }
+    }
+
+    /// An empty line stands outside of blocks.
+    fn restart(&mut self)
+        ensures kept { self.new.kept ≡ nothing }
+        ensures bound { self.new.held ≤ max_command }
+    {
+        self.bytes.clear();
+        self.is_long = false;
+        self.marks = LineMarks::of(&[]);
+        self.block = None;
+    }
+
+    /// An empty line stands in a block that begins with it.
+    fn begin_block(&mut self, first_line: u32)
+        ensures kept { self.new.kept ≡ block_begun first_line }
+        ensures bound { self.new.held ≤ max_command }
+    {
+        self.restart();
+        self.block = Some(OpenBlock {
+            first_line,
+            end: Some(0),
+        });
+    }
+
+    /// The open line of a block has ended, and goes to its text.
+    fn go_on(&mut self) -> Result<(), AllocError>
+        ensures kept { OnOk result (IfSome self.old.kept.block (λ b. self.new.kept ≡ block_on b.first self.old.kept.text)) }
+        ensures first { first_of self.new.kept.block ≡ first_of self.old.kept.block }
+        ensures bound { self.new.held ≤ max_command }
+    {
+        let Some(block) = self.block else {
+            return Ok(());
+        };
+        self.marks = LineMarks::of(&[]);
+        let end = self.bytes.len();
+        if self.is_long {
+            self.bytes.clear();
+            self.block = Some(OpenBlock { end: None, ..block });
+            return Ok(());
+        }
+        if end == MAX_COMMAND {
+            self.is_long = true;
+        } else {
+            self.bytes.push(b'\n')?;
+        }
+        self.block = Some(OpenBlock {
+            end: Some(end),
+            ..block
+        });
+        Ok(())
+    }
+
+    /// The command of the text so far. Behind it stands an empty line outside of blocks.
+    fn take_text(&mut self, alloc: Global, first_line: u32, fate: Fate) -> Cut
+        ensures cut { result ≡ text_cut self.old.kept.text first_line fate }
+        ensures kept { self.new.kept ≡ nothing }
+        ensures command { IsCommand first_line result }
+        ensures bound { self.new.held ≤ max_command }
+    {
+        self.block = None;
+        let bytes = mem::replace(&mut self.bytes, Vec::new(alloc));
+        let is_long = self.is_long;
+        self.restart();
+        text_cut(bytes, is_long, first_line, fate)
+    }
+
+    /// The command of the lines of the open block, if there is one. Behind it stands an empty line
+    /// outside of blocks.
+    fn take_lines(&mut self, alloc: Global, fate: Fate) -> Option<Cut>
+        ensures cut { result ≡ option_map (λ b. text_cut b.lines b.first fate) self.old.kept.block }
+        ensures kept { OnSome result (self.new.kept ≡ nothing) }
+        ensures command { IfSome result (IsCommand (first_of self.old.kept.block)) }
+        ensures bound { self.new.held ≤ max_command }
+    {
+        let block = self.block?;
+        self.bytes.truncate(end_of_lines(Some(block)));
+        self.is_long = block.end.is_none();
+        Some(self.take_text(alloc, block.first_line, fate))
+    }
 }
 
-fn extended(bytes: Vec<u8>, more: &[u8]) -> Result<Vec<u8>, AllocError>
-    ensures { IfOk result (λ v. v.items ≡ bytes.items ++ more.now) }
+fn end_of_lines(block: Option<OpenBlock>) -> usize
+    ensures { result ≡ lines_end block }
 {
-    let mut bytes = bytes;
-    bytes.extend_from_slice(more)?;
-    Ok(bytes)
+    match block {
+        Some(block) => block.end.unwrap_or(0),
+        None => 0,
+    }
 }
 
-/// The command that the input's end makes of an open line with this number, outside of blocks.
-fn last_plain_cut(alloc: Global, line: Vec<u8>, number: u32) -> Option<Cut>
-    requires { number ≤ 4000000000 + 1 }
-    ensures cut { option_to_list result ≡ last_cuts number None line.items }
-    ensures command { IfSome result (IsCommand (number + 1)) }
+/// A command of this text, or of one that is too long.
+fn text_cut(text: Vec<u8>, is_long: bool, first_line: u32, fate: Fate) -> Cut
+    requires { vec_len text ≤ max_command }
+    ensures cut { result ≡ text_cut (held_text is_long text.items) first_line fate }
+    ensures command { IsCommand first_line result }
 {
-    if is_opening_line(&line) {
-        return Some(sized_cut(Vec::new(alloc), number + 1, Fate::Unfinished));
+    let mut text = text;
+    if is_long {
+        text.clear();
     }
-    plain_cut(line, number)
-}
-
-/// The command that the input's end makes of an open block.
-fn last_block_cut(block: OpenBlock) -> Cut
-    ensures cut { (number : ℕ) → result ∷ [] ≡ last_cuts number (pending_block (Pending.Block block)) (drop block.start block.bytes.items) }
-    ensures command { IsCommand block.first_line result }
-{
-    if block.start == block.bytes.len() {
-        return block_cut(block, Fate::Unfinished);
+    Cut {
+        text: Bytes::from_vec(text),
+        first_line,
+        fate: if is_long { Fate::TooLong } else { fate },
     }
-    if is_closing_line(block.open_line()) {
-        return block_cut(block, Fate::Whole);
-    }
-    sized_cut(block.bytes, block.first_line, Fate::Unfinished)
 }

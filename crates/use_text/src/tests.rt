@@ -1,4 +1,5 @@
 ghost use Rattle.std.specs.Prelude.{◌≡◌, ◌+◌, ◌≤◌, ◌<◌, length};
+ghost use Rattle.use_text.specs.Limits.{max_lines, max_text};
 
 use super::*;
 use crate::TokenKind::*;
@@ -7,8 +8,8 @@ use std::test::Fail;
 
 // The tokens of a text as `KIND START..END LINE:COL`, or its refusal as `CODE at LINE:COL`.
 fn tokens_shown(alloc: Global, text: &[u8], first_line: u32) -> Result<String, Fail>
-    requires text { length text.now ≤ 4194304 }
-    requires line { first_line ≤ 4000000000 }
+    requires text { length text.now ≤ max_text }
+    requires line { first_line ≤ max_lines }
 {
     match lex(alloc, text, first_line) {
         Ok(tokens) => {
@@ -34,7 +35,7 @@ fn tokens_shown(alloc: Global, text: &[u8], first_line: u32) -> Result<String, F
 
 // The kinds of a text's tokens, but the last, which is `End`.
 fn kinds(alloc: Global, text: &str) -> Result<Vec<u16>, Fail>
-    requires { length text.now ≤ 4194304 }
+    requires { length text.now ≤ max_text }
 {
     let mut kinds = Vec::new(alloc);
     let Ok(tokens) = lex(alloc, text.as_bytes(), 1) else {
@@ -236,7 +237,7 @@ fn codes_have_texts(rt: HostRuntime) -> Result<(), Fail> {
 
 // The commands of a stream that comes in two pieces, each as `LINE FATE TEXT;`.
 fn cuts_shown(alloc: Global, first: &[u8], second: &[u8]) -> Result<String, Fail>
-    requires { length first.now + length second.now ≤ 4000000000 }
+    requires { length first.now + length second.now ≤ max_lines }
 {
     let mut cutter = Cutter::new(alloc);
     cutter.feed(first)?;
@@ -244,6 +245,24 @@ fn cuts_shown(alloc: Global, first: &[u8], second: &[u8]) -> Result<String, Fail
     let mut shown = String::new(alloc);
     'cuts: while let Some(cut) = cutter.next() {
         push_shown(&mut shown, alloc, &cut)?;
+    }
+    if let Some(cut) = cutter.finish() {
+        push_shown(&mut shown, alloc, &cut)?;
+    }
+    Ok(shown)
+}
+
+// The same of a stream that comes byte by byte. Each command is taken as soon as it has ended.
+fn cuts_of_bytes(alloc: Global, stream: &[u8]) -> Result<String, Fail>
+    requires { length stream.now ≤ max_lines }
+{
+    let mut cutter = Cutter::new(alloc);
+    let mut shown = String::new(alloc);
+    'bytes: for i in 0..stream.len() {
+        cutter.feed(&stream[i..i + 1])?;
+        'cuts: while let Some(cut) = cutter.next() {
+            push_shown(&mut shown, alloc, &cut)?;
+        }
     }
     if let Some(cut) = cutter.finish() {
         push_shown(&mut shown, alloc, &cut)?;
@@ -289,6 +308,8 @@ fn every_split_gives_the_same_commands(rt: HostRuntime) -> Result<(), Fail> {
             let shown = cuts_shown(alloc, &stream[..at], &stream[at..])?;
             assert_eq!(rt; shown.as_str(), want, "split at {at}");
         }
+        let shown = cuts_of_bytes(alloc, stream)?;
+        assert_eq!(rt; shown.as_str(), want, "byte by byte");
     }
     Ok(())
 }
@@ -343,7 +364,7 @@ fn only_cut(
     second: &[u8],
     third: &[u8],
 ) -> Result<Option<Cut>, AllocError>
-    requires { length first.now + length second.now + length third.now ≤ 4000000000 }
+    requires { length first.now + length second.now + length third.now ≤ max_lines }
 {
     let mut cutter = Cutter::new(alloc);
     cutter.feed(first)?;

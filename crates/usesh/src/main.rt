@@ -30,6 +30,14 @@ fn run_uncounted<F: Shelf, S: Source, K: Sink, L: Ledger>(
     run(alloc, words, shelf, source, sink, &mut steps)
 }
 
+/// What could not be read: the model's file, or the input.
+fn unread(words: &[String], model_failed: bool) -> &str {
+    match words.get(1) {
+        Some(name) if model_failed => name.as_str(),
+        _ => "the input",
+    }
+}
+
 fn main(rt: HostRuntime) -> ExitCode {
     let alloc = rt.alloc();
     // A word that is not UTF-8 makes the words a faulty command line.
@@ -54,5 +62,15 @@ fn main(rt: HostRuntime) -> ExitCode {
         &mut sink,
         Blank::new(1),
     );
+    // A run that a fault ended says so, where it can; its answers and its status stand without that.
+    let _ = match status {
+        Status::ReadFault => {
+            let name = unread(&words, shelf.faults() > 0);
+            eprintln!(rt; "usesh: cannot read {name}")
+        }
+        Status::WriteFault => eprintln!(rt; "usesh: cannot write"),
+        Status::Memory => eprintln!(rt; "usesh: out of memory"),
+        _ => Ok(()),
+    };
     ExitCode::from(status.number())
 }

@@ -5,10 +5,10 @@ use Rattle.use_shell.proofs.play.answer_waiting.Given as goal
 abbrev pub invariant-cuts : goal.invariant-cuts
 invariant-cuts g l = record {
   over : l.session.over ≡ false;
-  rest : l.cutter.rest ≡ l.fn.cutter.rest;
+  kept : l.cutter.kept ≡ l.fn.cutter.kept;
   count : l.cutter.count ≡ l.fn.cutter.count;
-  block : l.cutter.block ≡ l.fn.cutter.block;
   bytes : l.out.items ++ (play l.session.machine l.cutter.waiting).bytes ≡ l.fn.out.items ++ (play l.fn.session.machine l.fn.cutter.waiting).bytes;
+  ends : (play l.session.machine l.cutter.waiting).over ≡ (play l.fn.session.machine l.fn.cutter.waiting).over;
   machine : (play l.session.machine l.cutter.waiting).machine ≡ (play l.fn.session.machine l.fn.cutter.waiting).machine;
   steps : l.steps ≡ l.fn.steps;
 }

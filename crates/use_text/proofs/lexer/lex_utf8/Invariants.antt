@@ -1,5 +1,6 @@
 use Rattle.std.proofs.Common.{length, ◌-◌, ◌≡◌, ◌≤◌, drop, All}
-use Rattle.use_text.specs.Tokens.{tokens_of_utf8, tokens_from, before_all, IsWithin, IsNearStart}
+use Rattle.use_text.specs.Tokens.{tokens_of_utf8, tokens_from, IsWithin}
+use Rattle.use_text.specs.TokenSteps.{before_all, IsNearStart}
 use Rattle.use_text.proofs.lexer.lex_utf8.Given as goal
 
 abbrev pub invariant-pieces : goal.invariant-pieces

@@ -1,21 +1,29 @@
-use Rattle.std.proofs.Common.{◌∙◌, ap, ◌++◌, ◌≡◌, slice_range, drop, List, ℕ}
+use Rattle.std.proofs.Common.{arith, drop, ◌∙◌, ap}
 use Rattle.std.proofs.lemmas.List.{take_rest}
-use Rattle.use_text.proofs.CutLemmas.{GoesOnBy, EndsLine, fed_line, fed_all, ends_line}
+use Rattle.use_text.specs.KeepingSteps.{extended}
+use Rattle.use_text.proofs.CutLemmas.{goes_on, ends_line, fed_none, fed_line, fed_all}
 use Rattle.use_text.proofs.cutter.Cutter.feed.Goals as goal
+
+pub lines-init : goal.lines-init
+lines-init c = record { within = omega arith; few = omega arith; fed = fed_none c.args.self.now }
 
 pub lines-preserved : goal.lines-preserved
 lines-preserved c =
+    let old = c.lines.self in
     let on = c.extend.new.self in
     let new = c.end_line.new.self in
-    let line = slice_range c.args.piece.now c.lines.at c.in-Some.end in
-    let goes : GoesOnBy c.lines.self on line = record { rest = c.in_ok-extend.ensures.rest; count = c.extend.ensures.count; block = c.in_ok-extend.ensures.block; waiting = c.extend.ensures.waiting } in
-    let ends : EndsLine on new on.rest = record { rest = c.in_ok-end_line.ensures.rest; count = c.in_ok-end_line.ensures.count; block = c.in_ok-end_line.ensures.block; waiting = c.in_ok-end_line.ensures.waiting } in
-    fed_line c.args.self.now c.args.piece.now c.lines.self new c.lines.at c.in-Some.end line c.lines.invariant c.in-Some.ensures.within.0 c.in-Some.ensures.within.1 c.in-Some.ensures.ended (ends_line c.lines.self on new line goes ends)
+    let found = c.in-Some.ensures in
+    let line = goes_on old on _ found.ended c.in_ok-extend.ensures.kept c.extend.ensures.count c.extend.ensures.waiting in
+    let feed = ends_line on new c.in_ok-end_line.ensures.kept c.in_ok-end_line.ensures.count c.in_ok-end_line.ensures.waiting in
+    record {
+      within = omega arith;
+      few = omega (arith, c.lines.invariant.few, c.extend.ensures.count, c.in_ok-end_line.ensures.count);
+      fed = fed_line c.args.self.now old on new c.args.piece.now c.lines.at c.in-Some.end found.within.0 found.within.1 found.feed c.lines.invariant.fed line feed;
+    }
 
 pub returns-clause-fed : goal.returns-clause-fed
 returns-clause-fed c =
+    let old = c.lines.self in
     let on = c.extend-2.new.self in
-    let more = drop c.lines.at c.args.piece.now in
-    let rest : on.rest ≡ c.lines.self.rest ++ more = c.in_ok-extend-2.ensures.rest ∙ ap (λ (l : List ℕ). c.lines.self.rest ++ l) (take_rest c.args.piece.now c.lines.at) in
-    let goes : GoesOnBy c.lines.self on more = record { rest = rest; count = c.extend-2.ensures.count; block = c.in_ok-extend-2.ensures.block; waiting = c.extend-2.ensures.waiting } in
-    fed_all c.args.self.now c.args.piece.now c.lines.self on c.lines.at c.lines.invariant c.in_default.ensures.«open» goes
+    let kept_is = c.in_ok-extend-2.ensures.kept ∙ ap (extended old.kept) (take_rest c.args.piece.now c.lines.at) in
+    fed_all c.args.self.now old on c.args.piece.now c.lines.at c.lines.invariant.fed (goes_on old on (drop c.lines.at c.args.piece.now) c.in_default.ensures.«open» kept_is c.extend-2.ensures.count c.extend-2.ensures.waiting)

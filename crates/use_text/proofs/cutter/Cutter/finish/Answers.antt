@@ -3,4 +3,4 @@ use Rattle.use_text.proofs.CutLemmas.{finished}
 use Rattle.use_text.proofs.cutter.Cutter.finish.Goals as goal
 
 pub returns-clause-last : goal.returns-clause-last
-returns-clause-last c = finished c.args.self.now (option_to_list c.last_cut.result) (search rules)
+returns-clause-last c = finished c.args.self.now (option_to_list c.finish.result) (search rules)

@@ -1,0 +1,18 @@
+-- Readers and writers of std, behind the traits.
+use Rattle.std.specs.Prelude.{ℕ, ◌-◌, List, length, take, Option}
+use Rattle.std.specs.Option.{option_map}
+
+-- a reader, and how often it has failed
+pub record Counted (T : Type 0) : Type 0 where
+  pub inner : T
+  pub faults : ℕ
+
+-- a writer, how often it has failed, and how many bytes it holds at its end that were not accepted, since their flush failed
+pub record Flushed (T : Type 0) : Type 0 where
+  pub inner : T
+  pub faults : ℕ
+  pub refused : ℕ
+
+-- the bytes that were accepted, of those that a writer tells
+abbrev pub accepted : Option (List ℕ) → ℕ → Option (List ℕ)
+accepted contents refused = option_map (λ bytes. take (length bytes - refused) bytes) contents
