@@ -1,0 +1,81 @@
+-- Operations that override others.
+use Rattle.std.specs.Prelude.{ℕ, Bool, true, false, not, ◌&&◌, ◌||◌, if◌then◌else◌, List, [], ◌∷◌, map, filter, Option, Some, None, slice_get, find}
+use Rattle.std.specs.List.{filter_map, flat_map, list_all, list_any}
+use Rattle.std.specs.Option.{option_and_then, option_eq, option_map, option_map_or}
+use Rattle.std.specs.Cmp.Lexicographic.{pointwise}
+use Rattle.ocl_values.specs.declared.value.Kind.{Kind}
+use Rattle.ocl_values.specs.contracts.value.KindPartialEq.TheImpl.{ghosts as kind_ghosts}
+use Rattle.use_text.specs.declared.place.Place.{Place}
+use Rattle.class_decls.specs.declared.decls.BodyKind.{BodyKind}
+use Rattle.class_decls.specs.declared.decls.BodyKind.TheVariants.{Bare, Query, Soil}
+use Rattle.class_decls.specs.declared.decls.ClassDecl.{ClassDecl}
+use Rattle.class_decls.specs.declared.decls.CondDecl.{CondDecl}
+use Rattle.class_decls.specs.declared.decls.Decls.{Decls}
+use Rattle.class_decls.specs.declared.decls.OpDecl.{OpDecl}
+use Rattle.class_decls.specs.declared.decls.TypeDecl.{TypeDecl}
+use Rattle.class_decls.specs.Texts.{same_text}
+use Rattle.class_decls.specs.Names.{head_in, numbered}
+use Rattle.class_decls.specs.Numbering.{is_among}
+use Rattle.class_decls.specs.Ancestors.{above, ancestor_numbers, ancestors, class_numbered, parent_numbers, properly_above}
+use Rattle.class_decls.specs.Features.{first_class}
+
+-- two types are written alike
+abbrev pub same_type : TypeDecl → TypeDecl → Bool
+same_type a b = pointwise kind_ghosts.eq a.kinds b.kinds && same_text a.name.text b.name.text
+
+-- two heads take parameters of the same types, and give results of the same type
+abbrev pub same_signature : OpDecl → OpDecl → Bool
+same_signature a b = pointwise (λ p q. same_type p.of_type q.of_type) a.params b.params && option_eq same_type a.result_type b.result_type
+
+-- one is a query and the other has statements
+abbrev pub mixes : BodyKind → BodyKind → Bool
+mixes Query Soil = true
+mixes Soil Query = true
+mixes _ _ = false
+
+-- each operation with the place of its class among the classes
+abbrev pub placed_ops : Decls → List (ℕ × OpDecl)
+placed_ops ds = numbered (λ i c. map (λ op. (i, op)) c.ops) ds.classes
+
+-- the operations of its name that the ancestors of its class declare
+abbrev pub overridden : Decls → ℕ → OpDecl → List OpDecl
+overridden ds i op = filter (λ other. same_text other.name.text op.name.text) (flat_map (λ c. c.ops) (properly_above ds i))
+
+-- the place of the first operation that passes a test
+abbrev pub first_op : (ℕ → OpDecl → Bool) → Decls → Option Place
+first_op test ds = option_map (λ p. p.1.name.place) (find (λ p. test p.0 p.1) (placed_ops ds))
+
+-- M8: overriding changes the signature
+abbrev pub signature_changes : Decls → Option Place
+signature_changes ds = first_op (λ i op. list_any (λ other. not (same_signature op other)) (overridden ds i op)) ds
+
+-- whether the class of a number declares an operation of a name
+abbrev pub declares_op : Decls → List ℕ → ℕ → Bool
+declares_op ds text c = option_map_or (λ d. list_any (λ op. same_text op.name.text text) d.ops) (class_numbered ds c) false
+
+-- of some classes, one that declares an operation has among its ancestors all the others that declare it
+abbrev pub has_overriding : Decls → List ℕ → List ℕ → Bool
+has_overriding ds classes text =
+    list_any (λ c. declares_op ds text c && list_all (λ d. not (declares_op ds text d) || is_among (ancestors (parent_numbers ds) c) d) classes) classes
+
+-- M9: operation is ambiguous; no declaration of its name overrides all others
+abbrev pub operation_ambiguous : Decls → Option Place
+operation_ambiguous ds =
+    first_class (λ i. list_any (λ c. list_any (λ op. not (has_overriding ds (ancestor_numbers ds i) op.name.text)) c.ops) (above ds i)) ds
+
+-- M10: query and statement bodies are mixed
+abbrev pub bodies_mixed : Decls → Option Place
+bodies_mixed ds = first_op (λ i op. list_any (λ other. mixes op.body other.body) (overridden ds i op)) ds
+
+-- whether a class of a name declares an operation of this head's name and types
+abbrev pub declares_head : Decls → List ℕ → OpDecl → Bool
+declares_head ds class head =
+    list_any (λ c. same_text c.name.text class && list_any (λ op. same_text op.name.text head.name.text && same_signature op head) c.ops) ds.classes
+
+-- the head in a context whose class does not declare it
+abbrev pub undeclared_head : Decls → CondDecl → Option OpDecl
+undeclared_head ds cond = option_and_then (λ head. if declares_head ds cond.class.text head then None else Some head) (head_in cond.kind)
+
+-- M12: no such operation
+abbrev pub no_such_operation : Decls → Option Place
+no_such_operation ds = option_map (λ head. head.name.place) (slice_get (filter_map (undeclared_head ds) ds.conds) 0)

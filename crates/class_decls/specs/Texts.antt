@@ -1,0 +1,18 @@
+-- Names, and those that a model has without declaring them.
+use Rattle.std.specs.Prelude.{ℕ, Bool, nat_eq, List, [], ◌∷◌, codes}
+use Rattle.std.specs.List.{list_any}
+use Rattle.std.specs.Cmp.Lexicographic.{pointwise}
+
+abbrev pub same_text : List ℕ → List ℕ → Bool
+same_text a b = pointwise nat_eq a b
+
+-- the plain types
+abbrev pub plain_types : List (List ℕ)
+plain_types = codes "Boolean" ∷ codes "Integer" ∷ codes "String" ∷ codes "OclAny" ∷ codes "OclVoid" ∷ []
+
+-- what the body of an operation and its contracts call the receiver and the result, so that no parameter may
+abbrev pub bound_names : List (List ℕ)
+bound_names = codes "self" ∷ codes "result" ∷ []
+
+abbrev pub is_plain_type : List ℕ → Bool
+is_plain_type text = list_any (same_text text) plain_types

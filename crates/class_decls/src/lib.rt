@@ -1,0 +1,11 @@
+//! What a model declares, and the rules by which its declarations are well formed.
+#![tactic(auto)]
+
+mod decls;
+mod entry;
+
+pub use decls::{
+    AssocDecl, AttrDecl, BodyKind, ClassDecl, CondDecl, CondKind, Decls, EndDecl, EnumDecl,
+    MultPart, Name, OpDecl, OpOf, ParamDecl, TypeDecl,
+};
+pub use entry::{Entry, Space};
