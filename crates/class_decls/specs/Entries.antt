@@ -1,13 +1,13 @@
 -- Names that are declared twice in a space.
 use Rattle.std.specs.Prelude.{ℕ, Bool, ◌&&◌, if◌then◌else◌, List, [], ◌∷◌, Option, Some, None}
 use Rattle.std.specs.declared.cmp.Ordering.{Ordering}
-use Rattle.std.specs.Ordering.{is_eq, is_lt}
+use Rattle.std.specs.Ordering.{is_lt}
 use Rattle.use_orders.specs.Canon.{bag_of}
 use Rattle.use_text.specs.declared.place.Place.{Place}
 use Rattle.use_text.specs.contracts.place.PlaceOrd.TheImpl.{ghosts as place_ghosts}
 use Rattle.class_decls.specs.declared.entry.Space.{Space}
 use Rattle.class_decls.specs.declared.entry.Entry.{Entry}
-use Rattle.class_decls.specs.contracts.entry.SpaceOrd.TheImpl.{ghosts as space_ghosts}
+use Rattle.class_decls.specs.contracts.entry.SpacePartialEq.TheImpl.{ghosts as space_ghosts}
 use Rattle.class_decls.specs.contracts.entry.EntryOrd.TheImpl.{ghosts as entry_ghosts}
 use Rattle.class_decls.specs.Texts.{same_text}
 
@@ -20,7 +20,7 @@ abbrev pub entry_cmp : Entry → Entry → Ordering
 entry_cmp = entry_ghosts.cmp
 
 abbrev pub is_same_name : Entry → Entry → Bool
-is_same_name a b = is_eq (space_ghosts.cmp a.space b.space) && same_text a.text b.text
+is_same_name a b = space_ghosts.eq a.space b.space && same_text a.text b.text
 
 -- in a list in order, the places of names that stand right behind one of the same name, which stands at an earlier place
 abbrev pub again_from : Entry → List Entry → List Place

@@ -59,9 +59,11 @@ head_in (Post op) = head_of_op op
 abbrev pub heads : Decls → List OpDecl
 heads ds = flat_map (λ c. c.ops) ds.classes ++ filter_map (λ c. head_in c.kind) ds.conds
 
+abbrev pub params_of : ℕ → OpDecl → List Entry
+params_of i op = map (given (s.Parameters i)) bound_names ++ map (λ p. entry (s.Parameters i) p.name) op.params
+
 abbrev pub param_entries : Decls → List Entry
-param_entries ds =
-    numbered (λ i op. map (given (s.Parameters i)) bound_names ++ map (λ p. entry (s.Parameters i) p.name) op.params) (heads ds)
+param_entries ds = numbered params_of (heads ds)
 
 abbrev pub op_name : OpOf → Name
 op_name (Here name) = name

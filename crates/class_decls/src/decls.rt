@@ -1,3 +1,4 @@
+use crate::entry::Named;
 use ocl_values::{Kind, Text};
 use use_lists::Items;
 use use_text::Place;
@@ -131,4 +132,44 @@ pub struct Decls {
     pub assocs: Items<AssocDecl>,
     /// Invariants and contracts, those inside classes included.
     pub conds: Items<CondDecl>,
+}
+
+impl Named for EnumDecl {
+    ghost name_of = { λ d. d.name };
+
+    fn name(&self) -> &Name {
+        &self.name
+    }
+}
+
+impl Named for ClassDecl {
+    ghost name_of = { λ d. d.name };
+
+    fn name(&self) -> &Name {
+        &self.name
+    }
+}
+
+impl Named for AssocDecl {
+    ghost name_of = { λ d. d.name };
+
+    fn name(&self) -> &Name {
+        &self.name
+    }
+}
+
+impl Named for ParamDecl {
+    ghost name_of = { λ d. d.name };
+
+    fn name(&self) -> &Name {
+        &self.name
+    }
+}
+
+impl Named for OpDecl {
+    ghost name_of = { λ d. d.name };
+
+    fn name(&self) -> &Name {
+        &self.name
+    }
 }

@@ -1,4 +1,10 @@
+ghost use Rattle.std.specs.Prelude.{◌≡◌, IfOk, OnOk, ◌++◌, map};
+ghost use Rattle.class_decls.specs.declared.decls.Name.{Name};
+ghost use Rattle.class_decls.specs.Names.{entry, given};
+
+use crate::Name;
 use ocl_values::Text;
+use std::alloc::{AllocError, Global};
 use use_text::Place;
 
 /// Where a name has to be the only one of its kind. Numbers count the declarations of a model from 0.
@@ -26,4 +32,79 @@ pub struct Entry {
     pub space: Space,
     pub text: Text,
     pub place: Place,
+}
+
+impl Space {
+    /// The same space.
+    pub(crate) fn copy(&self, alloc: Global) -> Result<Space, AllocError>
+        ensures { IfOk result (λ space. space ≡ self.now) }
+    {
+        Ok(match self {
+            Space::Types => Space::Types,
+            Space::Literals(i) => Space::Literals(*i),
+            Space::Parameters(i) => Space::Parameters(*i),
+            Space::Invariants(class) => Space::Invariants(Text::copy_of(alloc, class.as_str())?),
+            Space::Contracts(class, op) => Space::Contracts(
+                Text::copy_of(alloc, class.as_str())?,
+                Text::copy_of(alloc, op.as_str())?,
+            ),
+            Space::Parents(i) => Space::Parents(*i),
+            Space::Operations(i) => Space::Operations(*i),
+        })
+    }
+}
+
+/// What is declared under a name.
+pub(crate) trait Named {
+    ghost name_of: { Self → Name };
+
+    /// Its name.
+    fn name(&self) -> &Name
+        ensures { result.now ≡ name_of self.now };
+}
+
+impl Named for Name {
+    ghost name_of = { λ n. n };
+
+    fn name(&self) -> &Name {
+        self
+    }
+}
+
+/// A declared name in a space.
+pub(crate) fn entry_of(alloc: Global, space: Space, name: &Name) -> Result<Entry, AllocError>
+    ensures { IfOk result (λ e. e ≡ entry space name.now) }
+{
+    Ok(Entry {
+        space,
+        text: Text::copy_of(alloc, name.text.as_str())?,
+        place: name.place,
+    })
+}
+
+/// A name that is there before the text.
+pub(crate) fn predeclared(alloc: Global, space: Space, text: &str) -> Result<Entry, AllocError>
+    ensures { IfOk result (λ e. e ≡ given space text.now) }
+{
+    Ok(Entry {
+        space,
+        text: Text::copy_of(alloc, text)?,
+        place: Place { line: 0, col: 0 },
+    })
+}
+
+/// Adds the names of what is declared in a space.
+pub(crate) fn add_entries<T: Named>(
+    alloc: Global,
+    space: &Space,
+    items: &[T],
+    names: &mut Vec<Entry>,
+) -> Result<(), AllocError>
+    ensures { OnOk result (names.new.items ≡ names.old.items ++ map (λ x. entry space.now (T.name_of x)) items.now) }
+{
+    'items: for item in items {
+        let name = entry_of(alloc, space.copy(alloc)?, item.name())?;
+        names.push(name)?;
+    }
+    Ok(())
 }

@@ -3,6 +3,8 @@
 
 mod decls;
 mod entry;
+mod names;
+mod repeats;
 
 pub use decls::{
     AssocDecl, AttrDecl, BodyKind, ClassDecl, CondDecl, CondKind, Decls, EndDecl, EnumDecl,
