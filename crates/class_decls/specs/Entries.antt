@@ -36,9 +36,13 @@ abbrev pub earlier : Place → Option Place → Place
 earlier p None = p
 earlier p (Some q) = if is_lt (place_cmp q p) then q else p
 
+-- of some places and one more, if there is one
+abbrev pub first_of : Option Place → List Place → Option Place
+first_of more [] = more
+first_of more (p ∷ ps) = Some (earlier p (first_of more ps))
+
 abbrev pub first_place : List Place → Option Place
-first_place [] = None
-first_place (p ∷ ps) = Some (earlier p (first_place ps))
+first_place ps = first_of None ps
 
 -- the first place at which a name is declared for the second time in its space
 abbrev pub declared_again : List Entry → Option Place

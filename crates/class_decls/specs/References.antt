@@ -18,13 +18,13 @@ class_references ds =
     ++ flat_map (λ a. a.first.class ∷ a.second.class ∷ []) ds.assocs
     ++ map (λ c. c.class) ds.conds
 
-abbrev pub head_types : OpDecl → List TypeDecl
-head_types op = map (λ p. p.of_type) op.params ++ option_to_list op.result_type
+-- the names in the types of a head
+abbrev pub head_types : OpDecl → List Name
+head_types op = map (λ p. p.of_type.name) op.params ++ map (λ t. t.name) (option_to_list op.result_type)
 
--- the types of attributes, parameters and results
+-- the names in the types of attributes, parameters and results
 abbrev pub type_references : Decls → List Name
-type_references ds =
-    map (λ t. t.name) (flat_map (λ c. map (λ a. a.of_type) c.attrs) ds.classes ++ flat_map head_types (heads ds))
+type_references ds = flat_map (λ c. map (λ a. a.of_type.name) c.attrs) ds.classes ++ flat_map head_types (heads ds)
 
 abbrev pub is_class : Decls → List ℕ → Bool
 is_class ds text = list_any (λ c. same_text c.name.text text) ds.classes
@@ -35,8 +35,10 @@ is_enum ds text = list_any (λ e. same_text e.name.text text) ds.enums
 abbrev pub is_type : Decls → List ℕ → Bool
 is_type ds text = is_plain_type text || is_enum ds text || is_class ds text
 
+-- the places of names that are not among some texts
+abbrev pub places_outside : (List ℕ → Bool) → List Name → List Place
+places_outside known names = map (λ n. n.place) (filter (λ n. not (known n.text)) names)
+
 -- M2: unknown class or type
 abbrev pub unknown_type : Decls → Option Place
-unknown_type ds =
-    first_place (map (λ n. n.place)
-        (filter (λ n. not (is_class ds n.text)) (class_references ds) ++ filter (λ n. not (is_type ds n.text)) (type_references ds)))
+unknown_type ds = first_place (places_outside (is_class ds) (class_references ds) ++ places_outside (is_type ds) (type_references ds))

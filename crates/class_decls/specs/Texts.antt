@@ -14,5 +14,9 @@ plain_types = codes "Boolean" ∷ codes "Integer" ∷ codes "String" ∷ codes "
 abbrev pub bound_names : List (List ℕ)
 bound_names = codes "self" ∷ codes "result" ∷ []
 
+-- whether a text is among others
+abbrev pub has_text : List (List ℕ) → List ℕ → Bool
+has_text texts text = list_any (λ y. same_text y text) texts
+
 abbrev pub is_plain_type : List ℕ → Bool
-is_plain_type text = list_any (same_text text) plain_types
+is_plain_type text = has_text plain_types text

@@ -3,7 +3,9 @@
 
 mod decls;
 mod entry;
+mod name_set;
 mod names;
+mod references;
 mod repeats;
 
 pub use decls::{
