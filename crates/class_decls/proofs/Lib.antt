@@ -4,3 +4,4 @@ pub mod Joined
 pub mod TextSets
 pub mod Backward
 pub mod Outside
+pub mod Given

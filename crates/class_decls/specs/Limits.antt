@@ -1,5 +1,5 @@
 -- How much a model may declare.
-use Rattle.std.specs.Prelude.{ℕ, ℤ, pos, suc, Bool, true, false, ◌&&◌, ◌||◌, nat_lt, if◌then◌else◌, List, [], ◌∷◌, ◌++◌, map, filter, length, count_by, Option, Some, None, slice_get, find}
+use Rattle.std.specs.Prelude.{ℕ, ℤ, pos, Bool, true, false, ◌&&◌, ◌||◌, nat_lt, if◌then◌else◌, List, [], ◌∷◌, ◌++◌, map, filter, length, take, count_by, Option, Some, None, slice_get, find}
 use Rattle.std.specs.List.{flat_map, list_any}
 use Rattle.std.specs.Option.{option_map, option_map_or, option_or}
 use Rattle.std.specs.Ordering.{int_cmp, nat_cmp, is_lt}
@@ -10,10 +10,11 @@ use Rattle.class_decls.specs.declared.decls.CondDecl.{CondDecl}
 use Rattle.class_decls.specs.declared.decls.CondKind.{CondKind}
 use Rattle.class_decls.specs.declared.decls.CondKind.TheVariants.{Inv, Pre, Post}
 use Rattle.class_decls.specs.declared.decls.Decls.{Decls}
+use Rattle.class_decls.specs.declared.decls.EndDecl.{EndDecl}
 use Rattle.class_decls.specs.declared.decls.EnumDecl.{EnumDecl}
 use Rattle.class_decls.specs.declared.decls.MultPart.{MultPart}
 use Rattle.class_decls.specs.declared.decls.OpDecl.{OpDecl}
-use Rattle.class_decls.specs.Texts.{same_text}
+use Rattle.class_decls.specs.Texts.{first_given, same_text}
 use Rattle.class_decls.specs.Names.{op_name, op_of}
 use Rattle.class_decls.specs.Ancestors.{above}
 use Rattle.class_decls.specs.Features.{attr_names, first_class}
@@ -30,11 +31,11 @@ is_past n = int_lt (pos 4294967295) n
 abbrev pub is_bad_part : MultPart → Bool
 is_bad_part p = is_past p.low || option_map_or (λ high. int_lt high p.low || is_past high || int_lt high (pos 1)) p.high false
 
-abbrev pub mult_parts : Decls → List MultPart
-mult_parts ds = flat_map (λ a. a.first.parts ++ a.second.parts) ds.assocs
+abbrev pub bad_part : EndDecl → Option Place
+bad_part e = option_map (λ p. p.place) (find is_bad_part e.parts)
 
 abbrev pub bad_multiplicity : Decls → Option Place
-bad_multiplicity ds = option_map (λ p. p.place) (find is_bad_part (mult_parts ds))
+bad_multiplicity ds = first_given (λ a. option_or (bad_part a.first) (bad_part a.second)) ds.assocs
 
 -- M13: too many classes
 abbrev pub too_many_classes : Decls → Option Place
@@ -78,11 +79,6 @@ too_many_contracts ds = first_op (λ i op. nat_lt 16 (length op.params) || nat_l
 abbrev pub excess_literal : EnumDecl → Option Place
 excess_literal e = option_map (λ n. n.place) (slice_get e.literals 1000)
 
--- of enumerations from a number on, the first that is one too many, or the first literal
-abbrev pub excess_from : ℕ → List EnumDecl → Option Place
-excess_from i [] = None
-excess_from i (e ∷ es) = if nat_lt i 200 then option_or (excess_literal e) (excess_from (suc i) es) else Some e.name.place
-
 -- M18: too many enumerations or literals
 abbrev pub too_many_literals : Decls → Option Place
-too_many_literals ds = excess_from 0 ds.enums
+too_many_literals ds = option_or (first_given excess_literal (take 200 ds.enums)) (option_map (λ e. e.name.place) (slice_get ds.enums 200))

@@ -13,7 +13,7 @@ use Rattle.class_decls.specs.declared.decls.CondDecl.{CondDecl}
 use Rattle.class_decls.specs.declared.decls.Decls.{Decls}
 use Rattle.class_decls.specs.declared.decls.OpDecl.{OpDecl}
 use Rattle.class_decls.specs.declared.decls.TypeDecl.{TypeDecl}
-use Rattle.class_decls.specs.Texts.{same_text}
+use Rattle.class_decls.specs.Texts.{first_given, same_text}
 use Rattle.class_decls.specs.Names.{head_in, numbered}
 use Rattle.class_decls.specs.Numbering.{is_among}
 use Rattle.class_decls.specs.Ancestors.{above, ancestor_numbers, ancestors, class_numbered, parent_numbers, properly_above}
@@ -72,10 +72,10 @@ abbrev pub declares_head : Decls → List ℕ → OpDecl → Bool
 declares_head ds class head =
     list_any (λ c. same_text c.name.text class && list_any (λ op. same_text op.name.text head.name.text && same_signature op head) c.ops) ds.classes
 
--- the head in a context whose class does not declare it
-abbrev pub undeclared_head : Decls → CondDecl → Option OpDecl
-undeclared_head ds cond = option_and_then (λ head. if declares_head ds cond.class.text head then None else Some head) (head_in cond.kind)
+-- where a context names a head that its class does not declare
+abbrev pub undeclared_head : Decls → CondDecl → Option Place
+undeclared_head ds cond = option_and_then (λ head. if declares_head ds cond.class.text head then None else Some head.name.place) (head_in cond.kind)
 
 -- M12: no such operation
 abbrev pub no_such_operation : Decls → Option Place
-no_such_operation ds = option_map (λ head. head.name.place) (slice_get (filter_map (undeclared_head ds) ds.conds) 0)
+no_such_operation ds = first_given (undeclared_head ds) ds.conds

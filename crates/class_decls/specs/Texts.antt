@@ -1,5 +1,6 @@
 -- Names, and those that a model has without declaring them.
-use Rattle.std.specs.Prelude.{ℕ, Bool, nat_eq, List, [], ◌∷◌, codes}
+use Rattle.std.specs.Prelude.{ℕ, Bool, nat_eq, List, [], ◌∷◌, codes, Option, None}
+use Rattle.std.specs.Option.{option_or}
 use Rattle.std.specs.List.{list_any}
 use Rattle.std.specs.Cmp.Lexicographic.{pointwise}
 
@@ -20,3 +21,8 @@ has_text texts text = list_any (λ y. same_text y text) texts
 
 abbrev pub is_plain_type : List ℕ → Bool
 is_plain_type text = has_text plain_types text
+
+-- what f gives of the first element of which it gives something
+abbrev pub first_given : {A B : Type 0} → (A → Option B) → List A → Option B
+first_given f [] = None
+first_given f (x ∷ xs) = option_or (f x) (first_given f xs)

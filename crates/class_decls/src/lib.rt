@@ -4,6 +4,7 @@
 mod decls;
 mod entry;
 mod name_set;
+mod limits;
 mod names;
 mod references;
 mod repeats;
