@@ -1,7 +1,7 @@
 -- Lists from the end on.
 use Rattle.std.proofs.Common.{◌≡◌, ℕ, zero, suc, ◌+◌, ◌-◌, ◌<◌, ◌≤◌, List, [], ◌∷◌, length, get_or, drop, refl, sym, ap, ◌∙◌, arith}
 
-drop_suc : {A : Type 0} (xs : List A) (k : ℕ) (x : A) → k < length xs → x ≡ get_or xs k x → drop k xs ≡ x ∷ drop (suc k) xs
+pub drop_suc : {A : Type 0} (xs : List A) (k : ℕ) (x : A) → k < length xs → x ≡ get_or xs k x → drop k xs ≡ x ∷ drop (suc k) xs
 drop_suc [] k x h e = absurd (omega arith)
 drop_suc (y ∷ ys) zero x h e = ap (λ z. z ∷ ys) (sym e)
 drop_suc (y ∷ ys) (suc k) x h e = drop_suc ys k x (omega arith) e
@@ -15,3 +15,9 @@ drop_before xs i x low high e =
 pub drop_all : {A : Type 0} (xs : List A) → drop (length xs) xs ≡ []
 drop_all [] = refl
 drop_all (x ∷ xs) = drop_all xs
+
+-- the elements from place k on
+pub drop_here : {A : Type 0} (xs : List A) (k : ℕ) (x : A) → k < length xs → x ≡ get_or xs k x → drop k xs ≡ x ∷ drop (k + 1) xs
+drop_here xs k x h e =
+    let j : k + 1 ≡ suc k = omega arith in
+    drop_suc xs k x h e ∙ ap (λ i. x ∷ drop i xs) (sym j)

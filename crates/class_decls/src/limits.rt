@@ -64,7 +64,7 @@ pub(crate) fn too_many_literals(decls: &Decls) -> Option<Place>
     ensures { result ≡ too_many_literals decls.now }
 {
     let enums = decls.enums.as_slice();
-    let most = enums.len().min(MOST);
+    let most = MOST.min(enums.len());
     first_excess_literal(&enums[..most]).or(place_past(enums, MOST))
 }
 
@@ -113,10 +113,25 @@ fn is_invariant(cond: &CondDecl) -> bool
     matches!(cond.kind, CondKind::Inv)
 }
 
+/// The place of the name of the invariant behind as many others.
+fn invariant_place(conds: &[CondDecl], others: usize) -> Option<Place>
+    ensures { result ≡ option_map (λ c. c.name.place) (slice_get (filter (λ c. is_invariant c.kind) conds.now) others) }
+{
+    let mut left = others;
+    'conds: for cond in conds {
+        if is_invariant(cond) {
+            if left == 0 {
+                return Some(cond.name.place);
+            }
+            left -= 1;
+        }
+    }
+    None
+}
+
 /// M16: the first invariant past the most that there may be.
 pub(crate) fn too_many_invariants(decls: &Decls) -> Option<Place>
     ensures { result ≡ too_many_invariants decls.now }
 {
-    let conds = decls.conds.as_slice();
-    conds.iter().filter(|cond| is_invariant(cond)).nth(MOST).map(|cond| cond.name.place)
+    invariant_place(decls.conds.as_slice(), MOST)
 }

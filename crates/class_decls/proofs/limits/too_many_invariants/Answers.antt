@@ -1,4 +1,0 @@
-use Rattle.class_decls.proofs.limits.too_many_invariants.Goals as goal
-
-pub returns : goal.returns
-returns c = ?
