@@ -5,3 +5,4 @@ pub mod TextSets
 pub mod Backward
 pub mod Outside
 pub mod Given
+pub mod Upward

@@ -1,6 +1,6 @@
 -- Classes by number, and their ancestors.
 use Rattle.std.specs.Prelude.{ℕ, zero, suc, ◌<◌, nat_eq, nat_lt, List, [], ◌∷◌, ◌++◌, map, filter, Option, slice_get, unwrap_or, position}
-use Rattle.std.specs.List.{filter_map, flat_map}
+use Rattle.std.specs.List.{AllByRecursion, filter_map, flat_map}
 use Rattle.std.specs.Option.{option_map_or}
 use Rattle.std.specs.Ordering.{nat_cmp}
 use Rattle.use_orders.specs.Canon.{set_of}
@@ -24,6 +24,10 @@ upward parents (suc n) c = c ∷ flat_map (upward parents n) (row_at parents c)
 -- a class and its ancestors, by number; parents have smaller numbers, so no way up has more steps than the class's number
 abbrev pub ancestors : List (List ℕ) → ℕ → List ℕ
 ancestors parents c = set_of nat_cmp (upward parents (suc c) c)
+
+-- each parent has a smaller number
+abbrev pub IsDownward : List (List ℕ) → Type 0
+IsDownward parents = (c : ℕ) → AllByRecursion (λ p. p < c) (row_at parents c)
 
 -- the class of a number
 abbrev pub class_numbered : Decls → ℕ → Option ClassDecl

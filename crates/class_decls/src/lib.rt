@@ -1,6 +1,7 @@
 //! What a model declares, and the rules by which its declarations are well formed.
 #![tactic(auto)]
 
+mod ancestors;
 mod decls;
 mod entry;
 mod name_set;
