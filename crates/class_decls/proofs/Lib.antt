@@ -6,3 +6,5 @@ pub mod Backward
 pub mod Outside
 pub mod Given
 pub mod Upward
+pub mod Least
+pub mod Flags

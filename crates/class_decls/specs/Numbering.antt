@@ -1,7 +1,7 @@
 -- The numbers of classes, and cycles of inheritance.
 use Rattle.std.specs.Prelude.{ℕ, zero, suc, Bool, not, ◌&&◌, ◌||◌, nat_eq, nat_lt, if◌then◌else◌, List, [], ◌∷◌, ◌++◌, map, take, length, Option, Some, None, slice_get, unwrap_or, position}
 use Rattle.std.specs.List.{filter_map, list_all, list_any}
-use Rattle.std.specs.Option.{option_and_then, option_map, option_or}
+use Rattle.std.specs.Option.{option_and_then, option_map, option_map_or, option_or}
 use Rattle.use_text.specs.declared.place.Place.{Place}
 use Rattle.class_decls.specs.declared.decls.ClassDecl.{ClassDecl}
 use Rattle.class_decls.specs.declared.decls.Decls.{Decls}
@@ -34,7 +34,7 @@ may_follow parents done i = not (is_among done i) && list_all (λ p. is_among do
 -- the classes that have a number, and so many that get the next ones: each time the first class that may follow
 abbrev pub numbered_on : List (List ℕ) → List ℕ → ℕ → List ℕ
 numbered_on parents done zero = done
-numbered_on parents done (suc n) = elim (least_below (may_follow parents done) (length parents)) [ None ↦ done | Some i ↦ numbered_on parents (done ++ i ∷ []) n ]
+numbered_on parents done (suc n) = option_map_or (λ i. numbered_on parents (done ++ i ∷ []) n) (least_below (may_follow parents done) (length parents)) done
 
 -- where the class of each number stands; a class on a cycle has no number
 abbrev pub numbering : List (List ℕ) → List ℕ
@@ -47,7 +47,9 @@ has_cycle parents n = nat_lt (length (numbering (take n parents))) (length (take
 abbrev pub closes_cycle : List (List ℕ) → ℕ → Bool
 closes_cycle parents i = has_cycle parents (suc i)
 
--- M4: inheritance has a cycle; the first class that closes one among the classes up to it
+-- M4: inheritance has a cycle; where the classes hold one, the first class that closes one among the classes up to it
 abbrev pub inheritance_cycle : Decls → Option Place
 inheritance_cycle ds =
-    option_map (λ c. c.name.place) (option_and_then (slice_get ds.classes) (least_below (closes_cycle (parent_places ds)) (length ds.classes)))
+    if has_cycle (parent_places ds) (length ds.classes)
+    then option_map (λ c. c.name.place) (option_and_then (slice_get ds.classes) (least_below (closes_cycle (parent_places ds)) (length ds.classes)))
+    else None

@@ -7,6 +7,7 @@ mod entry;
 mod name_set;
 mod limits;
 mod names;
+mod numbering;
 mod references;
 mod repeats;
 
