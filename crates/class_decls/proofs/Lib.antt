@@ -8,3 +8,4 @@ pub mod Given
 pub mod Upward
 pub mod Least
 pub mod Flags
+pub mod PlacedClasses

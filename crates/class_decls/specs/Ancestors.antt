@@ -1,6 +1,6 @@
 -- Classes by number, and their ancestors.
-use Rattle.std.specs.Prelude.{ℕ, zero, suc, ◌<◌, nat_eq, nat_lt, List, [], ◌∷◌, ◌++◌, map, filter, Option, slice_get, unwrap_or, position}
-use Rattle.std.specs.List.{AllByRecursion, filter_map, flat_map}
+use Rattle.std.specs.Prelude.{ℕ, zero, suc, ◌<◌, nat_eq, nat_lt, List, [], ◌∷◌, ◌++◌, map, filter, Option, slice_get, unwrap_or}
+use Rattle.std.specs.List.{AllByRecursion, filter_map, flat_map, position_from}
 use Rattle.std.specs.Option.{option_map_or}
 use Rattle.std.specs.Ordering.{nat_cmp}
 use Rattle.use_orders.specs.Canon.{set_of}
@@ -10,7 +10,7 @@ use Rattle.class_decls.specs.Numbering.{numbering, parent_places, row_at}
 
 -- the number of the class at a place
 abbrev pub number_at : Decls → ℕ → Option ℕ
-number_at ds i = position (nat_eq i) (numbering (parent_places ds))
+number_at ds i = position_from (nat_eq i) 0 (numbering (parent_places ds))
 
 -- the parents of each class, all by number
 abbrev pub parent_numbers : Decls → List (List ℕ)

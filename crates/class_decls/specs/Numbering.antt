@@ -1,6 +1,6 @@
 -- The numbers of classes, and cycles of inheritance.
-use Rattle.std.specs.Prelude.{ℕ, zero, suc, Bool, not, ◌&&◌, ◌||◌, nat_eq, nat_lt, if◌then◌else◌, List, [], ◌∷◌, ◌++◌, map, take, length, Option, Some, None, slice_get, unwrap_or, position}
-use Rattle.std.specs.List.{filter_map, list_all, list_any}
+use Rattle.std.specs.Prelude.{ℕ, zero, suc, Bool, not, ◌&&◌, ◌||◌, nat_eq, nat_lt, if◌then◌else◌, List, [], ◌∷◌, ◌++◌, map, take, length, Option, Some, None, slice_get, unwrap_or}
+use Rattle.std.specs.List.{filter_map, list_all, list_any, position_from}
 use Rattle.std.specs.Option.{option_and_then, option_map, option_map_or, option_or}
 use Rattle.use_text.specs.declared.place.Place.{Place}
 use Rattle.class_decls.specs.declared.decls.ClassDecl.{ClassDecl}
@@ -9,7 +9,7 @@ use Rattle.class_decls.specs.Texts.{same_text}
 
 -- where the class of a name stands among the classes
 abbrev pub class_at : Decls → List ℕ → Option ℕ
-class_at ds text = position (λ c. same_text c.name.text text) ds.classes
+class_at ds text = position_from (λ c. same_text c.name.text text) 0 ds.classes
 
 -- where the parents of each class stand
 abbrev pub parent_places : Decls → List (List ℕ)

@@ -8,6 +8,7 @@ mod name_set;
 mod limits;
 mod names;
 mod numbering;
+mod places;
 mod references;
 mod repeats;
 
