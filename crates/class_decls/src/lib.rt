@@ -2,6 +2,7 @@
 #![tactic(auto)]
 
 mod ancestors;
+mod cycles;
 mod decls;
 mod entry;
 mod name_set;
