@@ -9,3 +9,4 @@ pub mod Upward
 pub mod Least
 pub mod Flags
 pub mod PlacedClasses
+pub mod Ordered

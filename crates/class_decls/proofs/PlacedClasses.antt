@@ -66,3 +66,15 @@ choices_alike f g h (x ∷ xs) = ap₂ cons_option (h x) (choices_alike f g h xs
 pub rows_alike : {A C : Type 0} (f g : A → C) → ((x : A) → f x ≡ g x) → (xs : List A) → map f xs ≡ map g xs
 rows_alike f g h [] = refl
 rows_alike f g h (x ∷ xs) = ap₂ (λ a b. a ∷ b) (h x) (rows_alike f g h xs)
+
+pub default_alike : {A : Type 0} (xs : List A) (i : ℕ) (d e : A) → i < length xs → get_or xs i d ≡ get_or xs i e
+default_alike [] i d e h = absurd (omega arith)
+default_alike (x ∷ xs) zero d e h = refl
+default_alike (x ∷ xs) (suc i) d e h = default_alike xs i d e (omega arith)
+
+-- the same of a list of numbers
+pub position_next : (test : ℕ → Bool) (xs : List ℕ) (i : ℕ) → i < length xs →
+    position_from test 0 (take (i + 1) xs) ≡ option_or (position_from test 0 (take i xs)) (cond (test (get_or xs i 0)) (Some i) None)
+position_next test xs i h =
+    let z : 0 + i ≡ i = omega arith in
+    rw z at (position_more test 0 xs i (get_or xs i 0) h (default_alike xs i 0 (get_or xs i 0) h))

@@ -1,7 +1,7 @@
 -- Classes by number, and their ancestors.
 use Rattle.std.specs.Prelude.{ℕ, zero, suc, ◌<◌, nat_eq, nat_lt, List, [], ◌∷◌, ◌++◌, map, filter, Option, slice_get, unwrap_or}
 use Rattle.std.specs.List.{AllByRecursion, filter_map, flat_map, position_from}
-use Rattle.std.specs.Option.{option_map_or}
+use Rattle.std.specs.Option.{option_and_then, option_map_or}
 use Rattle.std.specs.Ordering.{nat_cmp}
 use Rattle.use_orders.specs.Canon.{set_of}
 use Rattle.class_decls.specs.declared.decls.ClassDecl.{ClassDecl}
@@ -31,7 +31,7 @@ IsDownward parents = (c : ℕ) → AllByRecursion (λ p. p < c) (row_at parents 
 
 -- the class of a number
 abbrev pub class_numbered : Decls → ℕ → Option ClassDecl
-class_numbered ds c = slice_get (filter_map (slice_get ds.classes) (numbering (parent_places ds))) c
+class_numbered ds c = option_and_then (slice_get ds.classes) (slice_get (numbering (parent_places ds)) c)
 
 -- the numbers of a class and its ancestors, where the class stands at a place
 abbrev pub ancestor_numbers : Decls → ℕ → List ℕ
