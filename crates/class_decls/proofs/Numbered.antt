@@ -1,6 +1,7 @@
 -- What is made of each element and its number, one element after another.
-use Rattle.std.proofs.Common.{◌≡◌, ℕ, zero, suc, ◌+◌, ◌<◌, List, [], ◌∷◌, ◌++◌, length, get_or, map, take, refl, sym, ap, ◌∙◌, append_assoc, append-nil, Option, Some, None, arith}
+use Rattle.std.proofs.Common.{◌≡◌, ℕ, zero, suc, ◌+◌, ◌<◌, ◌≤◌, List, [], ◌∷◌, ◌++◌, length, get_or, map, take, refl, sym, ap, ◌∙◌, append_assoc, append-nil, Option, Some, None, arith}
 use Rattle.std.specs.List.{enumerate_from, filter_map, flat_map}
+use Rattle.std.proofs.lemmas.Grind.{flat_map-append}
 use Rattle.std.proofs.lemmas.List.{take_more}
 use Rattle.std.proofs.lemmas.List.Elements.{filter_map-append}
 use Rattle.class_decls.specs.Names.{numbered}
@@ -45,3 +46,14 @@ numbered-map f h xs = from_map f h 0 xs
 pub filter_map_more : {A B : Type 0} (f : A → Option B) (xs : List A) (i : ℕ) (x : A) → i < length xs → x ≡ get_or xs i x →
     filter_map f (take (i + 1) xs) ≡ filter_map f (take i xs) ++ filter_map f (x ∷ [])
 filter_map_more f xs i x h e = ap (filter_map f) (take-more xs i x h e) ∙ filter_map-append f (take i xs) (x ∷ [])
+
+-- one element more in what is made of each
+pub flat_map_next : {A B : Type 0} (f : A → List B) (xs : List A) (i : ℕ) (x : A) → i < length xs → x ≡ get_or xs i x →
+    flat_map f (take (i + 1) xs) ≡ flat_map f (take i xs) ++ f x
+flat_map_next f xs i x h e = ap (flat_map f) (take-more xs i x h e) ∙ flat_map-append f (take i xs) (x ∷ []) ∙ ap (λ l. flat_map f (take i xs) ++ l) (append-nil (f x))
+
+pub all_taken : {A : Type 0} (xs : List A) (i : ℕ) → length xs ≤ i → take i xs ≡ xs
+all_taken [] zero h = refl
+all_taken [] (suc i) h = refl
+all_taken (x ∷ xs) zero h = absurd (omega arith)
+all_taken (x ∷ xs) (suc i) h = ap (λ l. x ∷ l) (all_taken xs i (omega arith))

@@ -7,4 +7,5 @@ pub mod Ancestors
 pub mod Features
 pub mod Operations
 pub mod Limits
+pub mod ClassRules
 pub mod WellFormed

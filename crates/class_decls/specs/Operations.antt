@@ -14,10 +14,10 @@ use Rattle.class_decls.specs.declared.decls.Decls.{Decls}
 use Rattle.class_decls.specs.declared.decls.OpDecl.{OpDecl}
 use Rattle.class_decls.specs.declared.decls.TypeDecl.{TypeDecl}
 use Rattle.class_decls.specs.Texts.{first_given, same_text}
-use Rattle.class_decls.specs.Names.{head_in, numbered}
+use Rattle.class_decls.specs.Names.{head_in}
 use Rattle.class_decls.specs.Numbering.{is_among}
-use Rattle.class_decls.specs.Ancestors.{above, ancestor_numbers, ancestors, class_numbered, parent_numbers, properly_above}
-use Rattle.class_decls.specs.Features.{first_class}
+use Rattle.class_decls.specs.Ancestors.{ancestor_numbers, ancestors, class_numbered, parent_numbers, properly_above}
+use Rattle.class_decls.specs.Features.{first_in_classes, named_if}
 
 -- two types are written alike
 abbrev pub same_type : TypeDecl → TypeDecl → Bool
@@ -33,21 +33,17 @@ mixes Query Soil = true
 mixes Soil Query = true
 mixes _ _ = false
 
--- each operation with the place of its class among the classes
-abbrev pub placed_ops : Decls → List (ℕ × OpDecl)
-placed_ops ds = numbered (λ i c. map (λ op. (i, op)) c.ops) ds.classes
-
 -- the operations of its name that the ancestors of its class declare
-abbrev pub overridden : Decls → ℕ → OpDecl → List OpDecl
-overridden ds i op = filter (λ other. same_text other.name.text op.name.text) (flat_map (λ c. c.ops) (properly_above ds i))
+abbrev pub overridden : List ClassDecl → OpDecl → List OpDecl
+overridden classes op = filter (λ other. same_text other.name.text op.name.text) (flat_map (λ c. c.ops) classes)
 
--- the place of the first operation that passes a test
-abbrev pub first_op : (ℕ → OpDecl → Bool) → Decls → Option Place
-first_op test ds = option_map (λ p. p.1.name.place) (find (λ p. test p.0 p.1) (placed_ops ds))
+-- the place of the first operation of a class that passes a test
+abbrev pub first_op : (OpDecl → Bool) → ClassDecl → Option Place
+first_op test c = option_map (λ op. op.name.place) (find test c.ops)
 
 -- M8: overriding changes the signature
 abbrev pub signature_changes : Decls → Option Place
-signature_changes ds = first_op (λ i op. list_any (λ other. not (same_signature op other)) (overridden ds i op)) ds
+signature_changes ds = first_in_classes (λ i. first_op (λ op. list_any (λ other. not (same_signature op other)) (overridden (properly_above ds i) op))) ds
 
 -- whether the class of a number declares an operation of a name
 abbrev pub declares_op : Decls → List ℕ → ℕ → Bool
@@ -58,14 +54,17 @@ abbrev pub has_overriding : Decls → List ℕ → List ℕ → Bool
 has_overriding ds classes text =
     list_any (λ c. declares_op ds text c && list_all (λ d. not (declares_op ds text d) || is_among (ancestors (parent_numbers ds) c) d) classes) classes
 
--- M9: operation is ambiguous; no declaration of its name overrides all others
+-- whether no declaration of an operation of some classes overrides all others of its name
+abbrev pub is_ambiguous : Decls → List ℕ → Bool
+is_ambiguous ds classes = list_any (λ op. not (has_overriding ds classes op.name.text)) (flat_map (λ c. c.ops) (filter_map (class_numbered ds) classes))
+
+-- M9: operation is ambiguous
 abbrev pub operation_ambiguous : Decls → Option Place
-operation_ambiguous ds =
-    first_class (λ i. list_any (λ c. list_any (λ op. not (has_overriding ds (ancestor_numbers ds i) op.name.text)) c.ops) (above ds i)) ds
+operation_ambiguous ds = first_in_classes (λ i c. named_if (is_ambiguous ds (ancestor_numbers ds i)) c) ds
 
 -- M10: query and statement bodies are mixed
 abbrev pub bodies_mixed : Decls → Option Place
-bodies_mixed ds = first_op (λ i op. list_any (λ other. mixes op.body other.body) (overridden ds i op)) ds
+bodies_mixed ds = first_in_classes (λ i. first_op (λ op. list_any (λ other. mixes op.body other.body) (overridden (properly_above ds i) op))) ds
 
 -- whether a class of a name declares an operation of this head's name and types
 abbrev pub declares_head : Decls → List ℕ → OpDecl → Bool

@@ -173,3 +173,11 @@ impl Named for OpDecl {
         &self.name
     }
 }
+
+impl Named for AttrDecl {
+    ghost name_of = { λ d. d.name };
+
+    fn name(&self) -> &Name {
+        &self.name
+    }
+}

@@ -108,3 +108,18 @@ pub(crate) fn add_entries<T: Named>(
     }
     Ok(())
 }
+
+/// Adds the names of what is declared.
+pub(crate) fn add_texts<T: Named>(
+    alloc: Global,
+    items: &[T],
+    texts: &mut Vec<Text>,
+) -> Result<(), AllocError>
+    ensures { OnOk result (texts.new.items ≡ texts.old.items ++ map (λ x. (T.name_of x).text) items.now) }
+{
+    'items: for item in items {
+        let text = Text::copy_of(alloc, item.name().text.as_str())?;
+        texts.push(text)?;
+    }
+    Ok(())
+}

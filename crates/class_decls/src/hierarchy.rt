@@ -1,7 +1,7 @@
-ghost use Rattle.std.specs.Prelude.{◌≡◌, ◌++◌, [], ℕ, List, None, IfOk, OnOk, length, map, slice_get, slice_index_or};
+ghost use Rattle.std.specs.Prelude.{◌≡◌, ◌++◌, [], ℕ, List, None, IfOk, OnOk, filter, length, map, nat_lt, slice_get, slice_index_or};
 ghost use Rattle.std.specs.Option.{option_copied};
 ghost use Rattle.std.specs.List.{cons_option, filter_map};
-ghost use Rattle.class_decls.specs.Ancestors.{ancestor_numbers, class_numbered, number_at, parent_numbers};
+ghost use Rattle.class_decls.specs.Ancestors.{above, ancestor_numbers, class_numbered, number_at, parent_numbers, properly_above};
 ghost use Rattle.class_decls.specs.Numbering.{numbering, parent_places, row_at};
 
 use crate::ancestors::{ancestors, row_at};
@@ -76,7 +76,36 @@ fn parents_by_number(
     Ok(parents)
 }
 
+fn add_class<'a>(
+    class: Option<&'a ClassDecl>,
+    found: &mut Vec<&'a ClassDecl>,
+) -> Result<(), AllocError>
+    ensures { OnOk result (map (λ c. c.now) found.new.items ≡ map (λ c. c.now) found.old.items ++ cons_option (option_copied class.entry) []) }
+{
+    match class {
+        None => Ok(()),
+        Some(class) => {
+            found.push(class)?;
+            Ok(())
+        }
+    }
+}
+
+/// The numbers below another.
+fn numbers_below(alloc: Global, numbers: &[usize], most: usize) -> Result<Vec<usize>, AllocError>
+    ensures { IfOk result (λ v. v.items ≡ filter (λ c. nat_lt c most) numbers.now) }
+{
+    numbers.iter().copied().filter(|number| *number < most).collect(alloc)
+}
+
 impl<'a> Hierarchy<'a> {
+    /// The declarations.
+    pub(crate) fn decls(&self) -> &'a Decls
+        ensures { result.now ≡ self.now.decls.now }
+    {
+        self.decls
+    }
+
     /// The classes of declarations, where the parents of each stand at these places.
     pub(crate) fn of(
         alloc: Global,
@@ -124,5 +153,48 @@ impl<'a> Hierarchy<'a> {
     {
         let place = self.order.get(number)?;
         self.decls.classes.get(*place)
+    }
+
+    /// The classes of some numbers.
+    fn classes(
+        &self,
+        alloc: Global,
+        numbers: &[usize],
+    ) -> Result<Vec<&'a ClassDecl>, AllocError>
+        ensures { IfOk result (λ v. map (λ c. c.now) v.items ≡ filter_map (class_numbered self.now.decls.now) numbers.now) }
+    {
+        let mut found = Vec::new(alloc);
+        'numbers: for number in numbers {
+            add_class(self.class(*number), &mut found)?;
+        }
+        Ok(found)
+    }
+
+    /// The class at a place and its ancestors.
+    pub(crate) fn above(
+        &self,
+        alloc: Global,
+        place: usize,
+    ) -> Result<Vec<&'a ClassDecl>, AllocError>
+        ensures { IfOk result (λ v. map (λ c. c.now) v.items ≡ above self.now.decls.now place) }
+    {
+        let numbers = self.ancestor_numbers(alloc, place)?;
+        let classes = self.classes(alloc, numbers.as_slice())?;
+        Ok(classes)
+    }
+
+    /// The ancestors of the class at a place, without the class itself.
+    pub(crate) fn properly_above(
+        &self,
+        alloc: Global,
+        place: usize,
+    ) -> Result<Vec<&'a ClassDecl>, AllocError>
+        ensures { IfOk result (λ v. map (λ c. c.now) v.items ≡ properly_above self.now.decls.now place) }
+    {
+        let numbers = self.ancestor_numbers(alloc, place)?;
+        let own = self.number(place).unwrap_or(0);
+        let proper = numbers_below(alloc, numbers.as_slice(), own)?;
+        let classes = self.classes(alloc, proper.as_slice())?;
+        Ok(classes)
     }
 }

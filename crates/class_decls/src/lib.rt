@@ -2,11 +2,13 @@
 #![tactic(auto)]
 
 mod ancestors;
+mod class_rules;
 mod cycles;
 mod decls;
 mod entry;
 mod name_set;
 mod limits;
+mod features;
 mod hierarchy;
 mod names;
 mod numbering;

@@ -4,7 +4,7 @@ ghost use Rattle.class_decls.specs.References.{class_references, head_types, is_
 ghost use Rattle.class_decls.specs.Texts.{has_text};
 ghost use Rattle.std.specs.List.{flat_map};
 
-use crate::entry::Named;
+use crate::entry::add_texts;
 use crate::name_set::NameSet;
 use crate::names::{PLAIN_TYPES, heads};
 use crate::repeats::earlier;
@@ -12,21 +12,6 @@ use crate::{AssocDecl, ClassDecl, CondDecl, Decls, Name, OpDecl};
 use ocl_values::Text;
 use std::alloc::{AllocError, Global};
 use use_text::Place;
-
-/// Adds the names of what is declared.
-fn add_texts<T: Named>(
-    alloc: Global,
-    items: &[T],
-    texts: &mut Vec<Text>,
-) -> Result<(), AllocError>
-    ensures { OnOk result (texts.new.items ≡ texts.old.items ++ map (λ x. (T.name_of x).text) items.now) }
-{
-    'items: for item in items {
-        let text = Text::copy_of(alloc, item.name().text.as_str())?;
-        texts.push(text)?;
-    }
-    Ok(())
-}
 
 fn add_plain_types(alloc: Global, names: &[&str], texts: &mut Vec<Text>) -> Result<(), AllocError>
     ensures { OnOk result (texts.new.items ≡ texts.old.items ++ map (λ t. t.now) names.now) }
