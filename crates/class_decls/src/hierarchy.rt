@@ -1,7 +1,7 @@
 ghost use Rattle.std.specs.Prelude.{◌≡◌, ◌++◌, [], ℕ, List, None, IfOk, OnOk, filter, length, map, nat_lt, slice_get, slice_index_or};
 ghost use Rattle.std.specs.Option.{option_copied};
 ghost use Rattle.std.specs.List.{cons_option, filter_map};
-ghost use Rattle.class_decls.specs.Ancestors.{above, ancestor_numbers, class_numbered, number_at, parent_numbers, properly_above};
+ghost use Rattle.class_decls.specs.Ancestors.{above, ancestor_numbers, ancestors, class_numbered, number_at, parent_numbers, properly_above};
 ghost use Rattle.class_decls.specs.Numbering.{numbering, parent_places, row_at};
 
 use crate::ancestors::{ancestors, row_at};
@@ -133,6 +133,13 @@ impl<'a> Hierarchy<'a> {
         number_of(self.numbers.as_slice(), place)
     }
 
+    /// The numbers of a class and of its ancestors.
+    pub(crate) fn ancestors(&self, alloc: Global, number: usize) -> Result<Vec<usize>, AllocError>
+        ensures { IfOk result (λ v. v.items ≡ ancestors (parent_numbers self.now.decls.now) number) }
+    {
+        ancestors(alloc, self.parents.as_slice(), number)
+    }
+
     /// The numbers of the class at a place and of its ancestors.
     pub(crate) fn ancestor_numbers(
         &self,
@@ -143,7 +150,7 @@ impl<'a> Hierarchy<'a> {
     {
         match self.number(place) {
             None => Ok(Vec::new(alloc)),
-            Some(number) => ancestors(alloc, self.parents.as_slice(), number),
+            Some(number) => self.ancestors(alloc, number),
         }
     }
 
@@ -156,7 +163,7 @@ impl<'a> Hierarchy<'a> {
     }
 
     /// The classes of some numbers.
-    fn classes(
+    pub(crate) fn classes(
         &self,
         alloc: Global,
         numbers: &[usize],

@@ -3,6 +3,7 @@
 
 mod ancestors;
 mod class_rules;
+mod clash;
 mod cycles;
 mod decls;
 mod entry;
@@ -13,6 +14,7 @@ mod hierarchy;
 mod names;
 mod numbering;
 mod numbers;
+mod overriding;
 mod places;
 mod references;
 mod repeats;
@@ -21,4 +23,5 @@ pub use decls::{
     AssocDecl, AttrDecl, BodyKind, ClassDecl, CondDecl, CondKind, Decls, EndDecl, EnumDecl,
     MultPart, Name, OpDecl, OpOf, ParamDecl, TypeDecl,
 };
+pub use clash::Clash;
 pub use entry::{Entry, Space};
