@@ -4,12 +4,14 @@
 mod ancestors;
 mod class_rules;
 mod clash;
+mod contracts;
 mod cycles;
 mod decls;
 mod entry;
 mod name_set;
 mod limits;
 mod features;
+mod heads;
 mod hierarchy;
 mod names;
 mod numbering;
@@ -18,6 +20,7 @@ mod overriding;
 mod places;
 mod references;
 mod repeats;
+mod rules;
 
 pub use decls::{
     AssocDecl, AttrDecl, BodyKind, ClassDecl, CondDecl, CondKind, Decls, EndDecl, EnumDecl,
@@ -25,3 +28,4 @@ pub use decls::{
 };
 pub use clash::Clash;
 pub use entry::{Entry, Space};
+pub use rules::RuleFault;
