@@ -1,6 +1,8 @@
 ghost use Rattle.std.specs.Prelude.{◌≡◌, IfOk};
 ghost use Rattle.class_decls.specs.ClassRules.{broken_by};
-ghost use Rattle.class_decls.specs.Features.{first_in_classes, named_if};
+ghost use Rattle.class_decls.specs.Features.{attribute_met_twice, first_in_classes, named_if, role_clashes};
+ghost use Rattle.class_decls.specs.Limits.{too_many_contracts, too_many_features};
+ghost use Rattle.class_decls.specs.Operations.{bodies_mixed, operation_ambiguous, signature_changes};
 ghost use Rattle.class_decls.specs.Texts.{first_numbered};
 
 use crate::clash::first_clash;
@@ -14,7 +16,7 @@ use use_text::Place;
 
 /// A rule that is judged class by class.
 #[derive(Clone, Copy, Debug, PartialEq, Eq)]
-pub enum ClassRule {
+pub(crate) enum ClassRule {
     /// M5: an attribute is met twice.
     AttributeMetTwice,
     /// M6: a role is named as another role or an attribute.
@@ -102,7 +104,7 @@ fn first_broken_among(
 }
 
 /// The first place at which a class breaks a rule.
-pub(crate) fn first_broken(
+fn first_broken(
     alloc: Global,
     hierarchy: &Hierarchy<'_>,
     rule: ClassRule,
@@ -111,4 +113,81 @@ pub(crate) fn first_broken(
 {
     let classes = hierarchy.decls().classes.as_slice();
     first_broken_among(alloc, hierarchy, rule, classes)
+}
+
+/// M5: the first class that meets an attribute twice.
+pub(crate) fn attribute_met_twice(
+    alloc: Global,
+    hierarchy: &Hierarchy<'_>,
+) -> Result<Option<Place>, AllocError>
+    ensures { IfOk result (λ place. place ≡ attribute_met_twice hierarchy.now.decls.now) }
+{
+    let place = first_broken(alloc, hierarchy, ClassRule::AttributeMetTwice)?;
+    Ok(place)
+}
+
+/// M6: the first class with a role that is named as another role or an attribute.
+pub(crate) fn role_clashing(
+    alloc: Global,
+    hierarchy: &Hierarchy<'_>,
+) -> Result<Option<Place>, AllocError>
+    ensures { IfOk result (λ place. place ≡ role_clashes hierarchy.now.decls.now) }
+{
+    let place = first_broken(alloc, hierarchy, ClassRule::RoleClashes)?;
+    Ok(place)
+}
+
+/// M8: the first operation with another signature than one that it overrides.
+pub(crate) fn signature_changes(
+    alloc: Global,
+    hierarchy: &Hierarchy<'_>,
+) -> Result<Option<Place>, AllocError>
+    ensures { IfOk result (λ place. place ≡ signature_changes hierarchy.now.decls.now) }
+{
+    let place = first_broken(alloc, hierarchy, ClassRule::SignatureChanges)?;
+    Ok(place)
+}
+
+/// M9: the first class with an operation no declaration of which overrides all others.
+pub(crate) fn operation_ambiguous(
+    alloc: Global,
+    hierarchy: &Hierarchy<'_>,
+) -> Result<Option<Place>, AllocError>
+    ensures { IfOk result (λ place. place ≡ operation_ambiguous hierarchy.now.decls.now) }
+{
+    let place = first_broken(alloc, hierarchy, ClassRule::OperationAmbiguous)?;
+    Ok(place)
+}
+
+/// M10: the first query that overrides statements, or the contrary.
+pub(crate) fn bodies_mixed(
+    alloc: Global,
+    hierarchy: &Hierarchy<'_>,
+) -> Result<Option<Place>, AllocError>
+    ensures { IfOk result (λ place. place ≡ bodies_mixed hierarchy.now.decls.now) }
+{
+    let place = first_broken(alloc, hierarchy, ClassRule::BodiesMixed)?;
+    Ok(place)
+}
+
+/// M14: the first class with too many attributes or operations.
+pub(crate) fn too_many_features(
+    alloc: Global,
+    hierarchy: &Hierarchy<'_>,
+) -> Result<Option<Place>, AllocError>
+    ensures { IfOk result (λ place. place ≡ too_many_features hierarchy.now.decls.now) }
+{
+    let place = first_broken(alloc, hierarchy, ClassRule::TooManyFeatures)?;
+    Ok(place)
+}
+
+/// M17: the first operation with too many parameters or contracts.
+pub(crate) fn too_many_contracts(
+    alloc: Global,
+    hierarchy: &Hierarchy<'_>,
+) -> Result<Option<Place>, AllocError>
+    ensures { IfOk result (λ place. place ≡ too_many_contracts hierarchy.now.decls.now) }
+{
+    let place = first_broken(alloc, hierarchy, ClassRule::TooManyContracts)?;
+    Ok(place)
 }

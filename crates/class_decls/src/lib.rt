@@ -28,4 +28,4 @@ pub use decls::{
 };
 pub use clash::Clash;
 pub use entry::{Entry, Space};
-pub use rules::RuleFault;
+pub use rules::{RuleFault, judge};
