@@ -1,8 +1,8 @@
 use std::fmt;
 
 /// A line and a column of a text, both from 1. Columns count bytes. A refusal of a whole file that
-/// could not be read stands at 0:0.
-#[derive(Clone, Copy, Debug, PartialEq, Eq)]
+/// could not be read stands at 0:0. Places are ordered as they stand in the text.
+#[derive(Clone, Copy, Debug, PartialEq, Eq, PartialOrd, Ord)]
 pub struct Place {
     pub line: u32,
     pub col: u32,

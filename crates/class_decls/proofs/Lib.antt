@@ -1,0 +1,12 @@
+pub mod Repeated
+pub mod Numbered
+pub mod Joined
+pub mod TextSets
+pub mod Backward
+pub mod Outside
+pub mod Given
+pub mod Upward
+pub mod Least
+pub mod Flags
+pub mod PlacedClasses
+pub mod Ordered

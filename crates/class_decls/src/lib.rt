@@ -1,0 +1,31 @@
+//! What a model declares, and the rules by which its declarations are well formed.
+#![tactic(auto)]
+
+mod ancestors;
+mod class_rules;
+mod clash;
+mod contracts;
+mod cycles;
+mod decls;
+mod entry;
+mod name_set;
+mod limits;
+mod features;
+mod heads;
+mod hierarchy;
+mod names;
+mod numbering;
+mod numbers;
+mod overriding;
+mod places;
+mod references;
+mod repeats;
+mod rules;
+
+pub use decls::{
+    AssocDecl, AttrDecl, BodyKind, ClassDecl, CondDecl, CondKind, Decls, EndDecl, EnumDecl,
+    MultPart, Name, OpDecl, OpOf, ParamDecl, TypeDecl,
+};
+pub use clash::Clash;
+pub use entry::{Entry, Space};
+pub use rules::{RuleFault, judge};
