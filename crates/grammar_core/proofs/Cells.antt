@@ -1,5 +1,5 @@
 -- What a choice leads to hangs on the kind of the next token alone, so that its cells tell it.
-use Rattle.std.proofs.Common.{◌≡◌, ◌<◌, ◌==◌, ℕ, Bool, true, false, if◌then◌else◌, List, [], ◌∷◌, length, map, option_map, Option, Some, None, slice_get, IfSome, is_some, subst, refl, sym, ap, ◌∙◌}
+use Rattle.std.proofs.Common.{◌≡◌, ℕ, Bool, true, false, if◌then◌else◌, List, [], ◌∷◌, option_map, Option, Some, None, slice_get, IfSome, is_some, subst, refl, sym, ap, ◌∙◌}
 use Rattle.std.proofs.lemmas.Option.{slice_get_within, slice_get-map}
 use Rattle.use_text.specs.declared.token.Token.{Token}
 use Rattle.grammar_core.specs.declared.table.Branch.{Branch}

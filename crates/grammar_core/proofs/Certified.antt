@@ -1,12 +1,12 @@
 -- A table with a certificate is fit.
-use Rattle.std.proofs.Common.{◌≡◌, ℕ, ◌+◌, ◌<◌, Bool, true, false, not, ◌&&◌, ◌||◌, List, [], ◌∷◌, length, Option, Some, None, slice_get, slice_index, nat_lt, zero, suc, refl, sym, ap, ◌∙◌, arith, subst, inl, inr, ⊎_elim, ltb-true, IsTrue}
+use Rattle.std.proofs.Common.{◌≡◌, ℕ, ◌+◌, ◌<◌, Bool, true, false, not, ◌&&◌, ◌||◌, List, [], ◌∷◌, Some, slice_get, slice_index, nat_lt, zero, suc, refl, sym, ◌∙◌, arith, subst, ⊎_elim, ltb-true, IsTrue}
 use Rattle.std.proofs.lemmas.Bool.{false≢true}
 use Rattle.grammar_core.specs.declared.table.Table.{Table}
 use Rattle.grammar_core.specs.declared.table.Prod.{Prod}
 use Rattle.grammar_core.specs.declared.table.Prod.TheVariants.{Tok, Call, Seq, Case, Star}
 use Rattle.grammar_core.specs.Tables.{next_prods, graph_of}
 use Rattle.grammar_core.specs.Paths.{IsIn, next, Path, is_marked}
-use Rattle.grammar_core.specs.Empty.{MayBeEmpty, empty_by}
+use Rattle.grammar_core.specs.Empty.{empty_by}
 use Rattle.grammar_core.specs.Unfit.{Unfit, IsTable, IsFit}
 use Rattle.grammar_core.specs.Checks.{outside_by, empty_body_by}
 use Rattle.grammar_core.specs.Certificate.{all_below, is_certified, are_certified}

@@ -1,4 +1,4 @@
-use Rattle.std.proofs.Common.{◌≡◌, length, take}
+use Rattle.std.proofs.Common.{◌≡◌, length}
 use Rattle.grammar_core.specs.Choices.{AreByKind}
 use Rattle.grammar_core.proofs.choices.all_cells.Given as goal
 

@@ -1,4 +1,4 @@
-use Rattle.std.proofs.Common.{◌≡◌, ℕ, List, Some, slice_get, sym, ◌∙◌, refl, length, ltb-true}
+use Rattle.std.proofs.Common.{◌≡◌, Some, slice_get, sym, ◌∙◌, refl, length, ltb-true}
 use Rattle.std.proofs.lemmas.Option.{slice_get_read}
 use Rattle.grammar_core.proofs.Cells.{cell_may_tell}
 use Rattle.grammar_core.proofs.choices.told_choice.Goals as goal

@@ -1,4 +1,4 @@
-use Rattle.std.proofs.Common.{◌≡◌, [], ◌∷◌, ◌++◌, List, Option, Some, None, ◌<◌, refl, sym, subst, ap, ◌∙◌}
+use Rattle.std.proofs.Common.{◌≡◌, [], ◌∷◌, ◌++◌, List, Option, Some, ◌<◌, sym, subst, ap, ◌∙◌}
 use Rattle.grammar_core.specs.declared.table.Prod.TheVariants.{Call}
 use Rattle.grammar_core.specs.declared.machine.Task.{Task}
 use Rattle.grammar_core.specs.declared.machine.Task.TheVariants.{Read}

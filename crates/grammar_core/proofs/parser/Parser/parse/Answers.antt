@@ -1,11 +1,8 @@
-use Rattle.std.proofs.Common.{◌≡◌, [], length, List, Some, Ok, Err, sym, subst, ◌∙◌}
+use Rattle.std.proofs.Common.{◌≡◌, length, List, Err, sym, ◌∙◌}
 use Rattle.std.proofs.lemmas.List.{length-map}
 use Rattle.use_text.specs.declared.token.Token.{Token}
-use Rattle.grammar_core.specs.declared.table.Table.{Table}
-use Rattle.grammar_core.specs.declared.table.Prod.TheVariants.{Call}
 use Rattle.grammar_core.specs.Arena.{read_trees}
 use Rattle.grammar_core.specs.Derives.{kinds}
-use Rattle.grammar_core.specs.Answers.{of_production, whole, Meets}
 use Rattle.grammar_core.proofs.Yield.{err_within}
 use Rattle.grammar_core.specs.declared.fault.ParseFault.TheVariants.{Stuck}
 use Rattle.grammar_core.specs.Parses.{verdict}
