@@ -14,7 +14,12 @@ use Rattle.use_text.specs.Keeping.{is_begun, marks_of, kept, Kept, KeptBlock}
 -- the marks of a line with more bytes
 abbrev pub marks_from : Option ℕ → LineMarks → List ℕ → LineMarks
 marks_from None m more = let n = marks_of more in record { begun = m.begun || is_begun more; first = n.first; second = n.second; alone = n.alone }
-marks_from (Some b) m more = record { begun = m.begun || is_begun more; first = Some b; second = option_or m.second (slice_get more 0); alone = m.alone && list_all is_blank more }
+marks_from (Some b) m more = record {
+  begun = m.begun || is_begun more;
+  first = Some b;
+  second = option_or m.second (slice_get more 0);
+  alone = m.alone && list_all is_blank more;
+}
 
 abbrev pub marks_on : LineMarks → List ℕ → LineMarks
 marks_on m more = marks_from m.first m more
@@ -52,7 +57,11 @@ abbrev pub block_begun : ℕ → Kept
 block_begun first = record { marks = marks_of []; text = Some []; block = Some (record { first = first; lines = Some [] }) }
 
 abbrev pub block_on : ℕ → Option (List ℕ) → Kept
-block_on first text = record { marks = marks_of []; text = option_and_then (λ t. kept (t ++ 10 ∷ [])) text; block = Some (record { first = first; lines = text }) }
+block_on first text = record {
+  marks = marks_of [];
+  text = option_and_then (λ t. kept (t ++ 10 ∷ [])) text;
+  block = Some (record { first = first; lines = text });
+}
 
 -- the commands that the open line gives, where it ends and has this number
 abbrev pub ended_cuts : ℕ → Option KeptBlock → Kept → List Cut
