@@ -1,6 +1,6 @@
 -- Flags that tell which classes have a number.
-use Rattle.std.proofs.Common.{◌≡◌, ◌≢◌, ◌⊎◌, ℕ, zero, suc, ◌+◌, ◌-◌, ◌<◌, ◌≤◌, Bool, true, false, not, ◌&&◌, ◌||◌, nat_eq, nat_lt, List, [], ◌∷◌, ◌++◌, length, get_or, replicate, cond, Option, Some, None, refl, sym, ap, ap₂, ◌∙◌, arith, true≢false, ⊎_elim}
-use Rattle.std.specs.List.{list_all, list_any}
+use Rattle.std.proofs.Common.{◌≡◌, ℕ, zero, suc, ◌+◌, ◌-◌, ◌<◌, ◌≤◌, Bool, true, false, not, ◌&&◌, ◌||◌, nat_eq, nat_lt, List, [], ◌∷◌, ◌++◌, length, get_or, replicate, cond, Option, Some, None, refl, sym, ap, ap₂, ◌∙◌, arith, ⊎_elim}
+use Rattle.std.specs.List.{list_all}
 use Rattle.std.specs.Prelude.{slice_set}
 use Rattle.std.specs.Option.{option_map_or, option_or}
 use Rattle.std.proofs.lemmas.Bool.Decides.{eqb_tells, leb_tells}
@@ -45,21 +45,22 @@ pub next_is : (parents : List (List ℕ)) (done : List Bool) (order : List ℕ) 
 next_is parents done order flags =
     least_alike (λ i. not (get_or done i true) && list_all (λ p. get_or done p true) (row_at parents i)) (may_follow parents order) (length parents)
     (λ i low. ap₂ (λ a b. not a && b) (flags.same i low)
-        (all_alike (λ p. get_or done p true) (λ p. is_among order p || not (nat_lt p (length parents))) (flag_is (length parents) done order flags) (row_at parents i)))
+    (all_alike (λ p. get_or done p true) (λ p. is_among order p || not (nat_lt p (length parents))) (flag_is (length parents) done order flags) (row_at parents i)))
 
 -- one class more has a number
 pub flagged_more : (n : ℕ) (done : List Bool) (order : List ℕ) (place : ℕ) → place < n → IsFlagged n done order → IsFlagged n (slice_set done place true) (order ++ place ∷ [])
 flagged_more n done order place low flags = record {
-    size = length-set done place true ∙ flags.size;
-    same = λ i h.
-        let all = sym (list_any-append (nat_eq i) order (place ∷ [])) in
-        let a = is_among order i in
-        ⊎_elim
-        (λ t. ap (λ j. get_or (slice_set done place true) j true) t.1
-            ∙ get_or-set_same done place true true (let e : length done ≡ n = flags.size in omega arith)
-            ∙ or_true a ∙ ap (λ b. a || (b || false)) (sym t.0) ∙ all)
-        (λ t. get_or-set_other done place i true true t.1 ∙ flags.same i h ∙ or_false a ∙ ap (λ b. a || (b || false)) (sym t.0) ∙ all)
-        (eqb_tells i place) }
+  size = length-set done place true ∙ flags.size;
+  same = λ i h.
+      let all = sym (list_any-append (nat_eq i) order (place ∷ [])) in
+      let a = is_among order i in
+      ⊎_elim
+      (λ t. ap (λ j. get_or (slice_set done place true) j true) t.1
+      ∙ get_or-set_same done place true true (let e : length done ≡ n = flags.size in omega arith)
+      ∙ or_true a ∙ ap (λ b. a || (b || false)) (sym t.0) ∙ all)
+      (λ t. get_or-set_other done place i true true t.1 ∙ flags.same i h ∙ or_false a ∙ ap (λ b. a || (b || false)) (sym t.0) ∙ all)
+      (eqb_tells i place);
+}
 
 -- so many classes have a number, and those before a place do
 pub record IsNumberedSoFar (parents : List (List ℕ)) (done : List Bool) (order : List ℕ) (count open_from : ℕ) : Type 0 where
@@ -70,10 +71,11 @@ pub record IsNumberedSoFar (parents : List (List ℕ)) (done : List Bool) (order
 
 pub start : (parents : List (List ℕ)) → IsNumberedSoFar parents (replicate (length parents) false) [] 0 0
 start parents = record {
-    flags = record { size = length-replicate (length parents) false; same = λ i h. get_or-replicate (length parents) i false true h };
-    ahead = let e : length parents - 0 ≡ length parents = omega arith in rw e refl;
-    low = λ i h. absurd (omega arith);
-    within = omega arith }
+  flags = record { size = length-replicate (length parents) false; same = λ i h. get_or-replicate (length parents) i false true h };
+  ahead = let e : length parents - 0 ≡ length parents = omega arith in rw e refl;
+  low = λ i h. absurd (omega arith);
+  within = omega arith;
+}
 
 within_or : (o : Option ℕ) (b : Bool) (n i : ℕ) → ((j : ℕ) → o ≡ Some j → j < n) → option_or o (cond b (Some n) None) ≡ Some i → i < suc n
 within_or None true n i h e = let k : n ≡ i = cc in omega arith
@@ -102,14 +104,15 @@ module _ (parents : List (List ℕ)) (done : List Bool) (order : List ℕ) (coun
   pub further : (open_from place : ℕ) → ((i : ℕ) → i < open_from → get_or done i true ≡ true) → open_from ≤ length parents → least_below flag_test (length parents) ≡ Some place →
       IsNumberedSoFar parents (slice_set done place true) (order ++ place ∷ []) (count + 1) open_from
   further open_from place low within e = record {
-      flags = flagged_more (length parents) done order place (least_within flag_test (length parents) place e) so_far.flags;
-      ahead = next_step ∙ ap (λ o. option_map_or (λ i. numbered_on parents (order ++ i ∷ []) (length parents - (count + 1))) o order) e;
-      low = λ i h. ⊎_elim
-          (λ t. ap (λ j. get_or (slice_set done place true) j true) t.1
-              ∙ get_or-set_same done place true true (let s : length done ≡ length parents = so_far.flags.size in let b = least_within flag_test (length parents) place e in omega arith))
-          (λ t. get_or-set_other done place i true true t.1 ∙ low i h)
-          (eqb_tells i place);
-      within = within }
+    flags = flagged_more (length parents) done order place (least_within flag_test (length parents) place e) so_far.flags;
+    ahead = next_step ∙ ap (λ o. option_map_or (λ i. numbered_on parents (order ++ i ∷ []) (length parents - (count + 1))) o order) e;
+    low = λ i h. ⊎_elim
+        (λ t. ap (λ j. get_or (slice_set done place true) j true) t.1
+        ∙ get_or-set_same done place true true (let s : length done ≡ length parents = so_far.flags.size in let b = least_within flag_test (length parents) place e in omega arith))
+        (λ t. get_or-set_other done place i true true t.1 ∙ low i h)
+        (eqb_tells i place);
+    within = within;
+  }
 
 -- each class had its turn
 pub finished : (parents : List (List ℕ)) (done : List Bool) (order : List ℕ) (count from : ℕ) → IsNumberedSoFar parents done order count from → length parents ≤ count → order ≡ numbering parents

@@ -1,5 +1,5 @@
 -- The first element of which something is given.
-use Rattle.std.proofs.Common.{◌≡◌, ℕ, zero, suc, ◌+◌, ◌<◌, Bool, true, false, List, [], ◌∷◌, length, get_or, take, Option, Some, None, is_some, refl, sym, ap, ◌∙◌, arith, true≢false}
+use Rattle.std.proofs.Common.{◌≡◌, ℕ, zero, suc, ◌+◌, ◌<◌, true, false, List, [], ◌∷◌, length, get_or, take, Option, Some, None, is_some, refl, sym, ap, ◌∙◌, arith, true≢false}
 use Rattle.std.specs.Option.{option_or}
 use Rattle.class_decls.specs.Texts.{first_given}
 
@@ -30,7 +30,7 @@ module _ {A B : Type 0} (f : A → Option B) where
   given_none (y ∷ ys) (suc i) x h e before here =
       let k : suc i + 1 ≡ suc (i + 1) = omega arith in
       rw k (or_none (f y) (first_given f (take (i + 1) ys)) (none_left (f y) (first_given f (take i ys)) before)
-          ∙ given_none ys i x (omega arith) e (none_right (f y) (first_given f (take i ys)) before) here)
+      ∙ given_none ys i x (omega arith) e (none_right (f y) (first_given f (take i ys)) before) here)
 
   -- what is given of the first
   pub given_at : (xs : List A) (i : ℕ) (x : A) → i < length xs → x ≡ get_or xs i x → first_given f (take i xs) ≡ None → is_some (f x) ≡ true → first_given f xs ≡ f x

@@ -1,5 +1,5 @@
 -- The order of the classes' numbers.
-use Rattle.std.proofs.Common.{◌≡◌, ◌⊎◌, ℕ, zero, suc, ◌+◌, ◌-◌, ◌<◌, ◌≤◌, Bool, true, false, not, ◌&&◌, ◌||◌, cond, nat_eq, nat_lt, List, [], ◌∷◌, ◌++◌, length, get_or, take, map, Option, Some, None, refl, sym, ap, ap₂, ◌∙◌, subst, arith, true≢false, ⊎_elim, length-append, All}
+use Rattle.std.proofs.Common.{◌≡◌, ℕ, zero, suc, ◌+◌, ◌<◌, ◌≤◌, Bool, true, false, not, ◌&&◌, ◌||◌, cond, nat_eq, nat_lt, List, [], ◌∷◌, ◌++◌, length, get_or, take, map, Option, Some, None, refl, sym, ap, ◌∙◌, arith, true≢false, ⊎_elim, length-append, All}
 use Rattle.std.specs.List.{AllByRecursion, cons_option, filter_map, list_all, list_any, position_from}
 use Rattle.std.specs.Option.{option_map_or, option_or}
 use Rattle.std.proofs.Math.Seq.{get_or-append_seam, take-append_seam}
@@ -49,21 +49,24 @@ all_from_test f (x ∷ xs) h = (first_of (f x) (list_all f xs) h, all_from_test 
 
 follows : (parents : List (List ℕ)) (done : List ℕ) (i : ℕ) → least_below (may_follow parents done) (length parents) ≡ Some i → Follows parents done i
 follows parents done i e = record {
-    low = least_within (may_follow parents done) (length parents) i e;
-    above = all_from_test (λ p. is_among done p || not (nat_lt p (length parents))) (row_at parents i)
-        (second_of (not (is_among done i)) (list_all (λ p. is_among done p || not (nat_lt p (length parents))) (row_at parents i)) (least_passes (may_follow parents done) (length parents) i e)) }
+  low = least_within (may_follow parents done) (length parents) i e;
+  above = all_from_test (λ p. is_among done p || not (nat_lt p (length parents))) (row_at parents i)
+      (second_of (not (is_among done i)) (list_all (λ p. is_among done p || not (nat_lt p (length parents))) (row_at parents i)) (least_passes (may_follow parents done) (length parents) i e));
+}
 
 one_more : (parents : List (List ℕ)) (done : List ℕ) (i : ℕ) → InTurn parents done → Follows parents done i → InTurn parents (done ++ i ∷ [])
-one_more parents done i before now = record { at = λ k h.
-    ⊎_elim
-    (λ low.
-        let earlier : Follows parents (take k done) (get_or done k 0) = before.at k low in
-        let short : k ≤ length done = omega arith in
-        rw (take-append-le k done (i ∷ []) short, get_or_append_left done (i ∷ []) 0 k low) earlier)
-    (λ high.
-        let last : k ≡ length done = (let l = length-append done (i ∷ []) in omega arith) in
-        rw (last, take-append_seam done (i ∷ []), get_or-append_seam done i [] 0) now)
-    (cases_lt k (length done)) }
+one_more parents done i before now = record {
+  at = λ k h.
+      ⊎_elim
+      (λ low.
+      let earlier : Follows parents (take k done) (get_or done k 0) = before.at k low in
+      let short : k ≤ length done = omega arith in
+      rw (take-append-le k done (i ∷ []) short, get_or_append_left done (i ∷ []) 0 k low) earlier)
+      (λ high.
+      let last : k ≡ length done = (let l = length-append done (i ∷ []) in omega arith) in
+      rw (last, take-append_seam done (i ∷ []), get_or-append_seam done i [] 0) now)
+      (cases_lt k (length done));
+}
 
 by_next : (parents : List (List ℕ)) (done : List ℕ) (n : ℕ) (o : Option ℕ) → InTurn parents done → ((i : ℕ) → o ≡ Some i → InTurn parents (numbered_on parents (done ++ i ∷ []) n)) →
     InTurn parents (option_map_or (λ i. numbered_on parents (done ++ i ∷ []) n) o done)
@@ -139,9 +142,9 @@ module _ (ds : Decls) where
       ⊎_elim
       (λ t. let low = early (nat_eq p) 0 order c q (or_first (is_among (take c order) p) (nat_lt p (length (parent_places ds))) t.0 h) e in omega arith)
       (λ t.
-          let low = low_among p (length (parent_places ds)) order (recursion_from_All (λ x. x < length (parent_places ds)) order (numbers_low (parent_places ds))) (found_any (nat_eq p) 0 order q e) in
-          let high : length (parent_places ds) < suc p = t.1 in
-          absurd (omega arith))
+      let low = low_among p (length (parent_places ds)) order (recursion_from_All (λ x. x < length (parent_places ds)) order (numbers_low (parent_places ds))) (found_any (nat_eq p) 0 order q e) in
+      let high : length (parent_places ds) < suc p = t.1 in
+      absurd (omega arith))
       (leb_tells (suc p) (length (parent_places ds)))
 
   -- parents have smaller numbers
@@ -149,4 +152,4 @@ module _ (ds : Decls) where
   downward c =
       row_of_map (λ p. p < c) (λ i. filter_map (number_at ds) (row_at (parent_places ds) i)) order c
       (λ low. all_chosen (number_at ds) (λ q. q < c) (row_at (parent_places ds) (get_or order c 0))
-          (all_with (λ p h q e. smaller c p q h e) (row_at (parent_places ds) (get_or order c 0)) ((in_turn (parent_places ds)).at c low).above))
+      (all_with (λ p h q e. smaller c p q h e) (row_at (parent_places ds) (get_or order c 0)) ((in_turn (parent_places ds)).at c low).above))

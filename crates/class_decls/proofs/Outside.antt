@@ -1,5 +1,5 @@
 -- The first place of some and of others.
-use Rattle.std.proofs.Common.{◌≡◌, ℕ, Bool, true, false, not, cond, List, [], ◌∷◌, ◌++◌, Option, Some, None, map, filter, refl, sym, ap, ◌∙◌}
+use Rattle.std.proofs.Common.{◌≡◌, ℕ, Bool, true, false, not, cond, List, [], ◌∷◌, ◌++◌, Option, Some, map, filter, refl, ap, ◌∙◌}
 use Rattle.use_text.specs.declared.place.Place.{Place}
 use Rattle.class_decls.specs.declared.decls.Name.{Name}
 use Rattle.class_decls.specs.Entries.{earlier, first_of}

@@ -1,6 +1,6 @@
 -- Where the classes of names stand.
-use Rattle.std.proofs.Common.{◌≡◌, ℕ, zero, suc, ◌+◌, ◌<◌, Bool, true, false, cond, List, [], ◌∷◌, map, nat_cmp, length, get_or, take, Option, Some, None, is_some, is_eq, Ordering, Equal, refl, sym, ap, ap₂, ◌∙◌, arith, true≢false}
-use Rattle.std.specs.BTreeMap.{BTreeMap, UpdatesBy, get, is_at}
+use Rattle.std.proofs.Common.{◌≡◌, ℕ, zero, suc, ◌+◌, ◌<◌, Bool, true, false, cond, List, [], ◌∷◌, map, nat_cmp, length, get_or, take, Option, Some, None, is_some, Ordering, refl, sym, ap, ap₂, ◌∙◌, arith, true≢false}
+use Rattle.std.specs.BTreeMap.{BTreeMap, UpdatesBy, get}
 use Rattle.std.specs.Cmp.Lexicographic.{slice_cmp, texts_ties}
 use Rattle.std.specs.FinMap.{nat_cmp-IsAntisymmetric, slice_cmp-IsAntisymmetric}
 use Rattle.std.specs.List.{cons_option, filter_map, position_from}
@@ -22,7 +22,7 @@ position_more test n (y ∷ ys) (suc i) x h e =
     let k : suc i + 1 ≡ suc (i + 1) = omega arith in
     let m : n + suc i ≡ (n + 1) + i = omega arith in
     rw (k, m) (choice (test y) n (position_from test (n + 1) (take (i + 1) ys)) (position_from test (n + 1) (take i ys)) (cond (test x) (Some ((n + 1) + i)) None)
-        (position_more test (n + 1) ys i x (omega arith) e))
+    (position_more test (n + 1) ys i x (omega arith) e))
 
 or_none : (o : Option ℕ) → o ≡ option_or o None
 or_none None = refl

@@ -1,7 +1,7 @@
 -- Names that follow one of the same name, from the end of a list on.
-use Rattle.std.proofs.Common.{◌≡◌, ℕ, zero, suc, ◌+◌, ◌-◌, ◌<◌, ◌≤◌, Bool, true, false, cond, List, [], ◌∷◌, length, get_or, drop, refl, sym, ap, ◌∙◌, arith, add-one}
+use Rattle.std.proofs.Common.{◌≡◌, ℕ, zero, suc, ◌+◌, ◌<◌, ◌≤◌, cond, List, [], ◌∷◌, length, get_or, drop, refl, arith}
 use Rattle.class_decls.specs.declared.entry.Entry.{Entry}
-use Rattle.class_decls.specs.Entries.{again, again_from, is_same_name}
+use Rattle.class_decls.specs.Entries.{again, is_same_name}
 
 pub again-end : (xs : List Entry) (k : ℕ) → length xs ≤ k + 1 → again (drop k xs) ≡ []
 again-end [] zero h = refl

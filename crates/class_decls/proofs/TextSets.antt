@@ -1,5 +1,5 @@
 -- Sets of texts.
-use Rattle.std.proofs.Common.{◌≡◌, ℕ, Bool, List, [], ◌∷◌, ◌||◌, map, nat_cmp, nat_eq, refl, sym, ap, ap₂, ◌∙◌, subst, Ordering, IsSorted, cond, count_by, ◌+◌}
+use Rattle.std.proofs.Common.{◌≡◌, ℕ, Bool, List, [], ◌∷◌, ◌||◌, map, nat_cmp, refl, sym, ap, ap₂, ◌∙◌, Ordering, IsSorted, cond, count_by, ◌+◌}
 use Rattle.std.specs.List.{list_any}
 use Rattle.std.proofs.lemmas.List.Sums.{sum_by-cons}
 use Rattle.std.specs.Cmp.Lexicographic.{slice_cmp, nat_list_cmp_total, texts_ties}

@@ -1,6 +1,6 @@
 -- Which classes are above others, as going through them from the largest number down finds them.
-use Rattle.std.proofs.Common.{◌≡◌, ℕ, zero, suc, ◌+◌, ◌<◌, ◌≤◌, max, Bool, true, false, ◌||◌, List, [], ◌∷◌, ◌++◌, fold, nat_cmp, Ordering, Less, Equal, Greater, is_eq, refl, sym, ap, ap₂, ◌∙◌, subst, length, true≢false, arith}
-use Rattle.std.specs.List.{AllByRecursion, flat_map, list_any}
+use Rattle.std.proofs.Common.{◌≡◌, ℕ, zero, suc, ◌<◌, ◌≤◌, max, Bool, true, false, ◌||◌, List, [], ◌∷◌, ◌++◌, fold, nat_cmp, Less, is_eq, refl, sym, ap, ap₂, ◌∙◌, subst, length, true≢false, arith}
+use Rattle.std.specs.List.{AllByRecursion, flat_map}
 use Rattle.std.specs.Ordering.{match_ordering}
 use Rattle.std.specs.BTreeSet.{insert_key}
 use Rattle.std.specs.FinMap.{nat_cmp-IsAntisymmetric}
@@ -29,7 +29,7 @@ upward_enough parents down zero m p h k = absurd (omega arith)
 upward_enough parents down (suc n) zero p h k = absurd (omega arith)
 upward_enough parents down (suc n) (suc m) p h k =
     ap (λ l. p ∷ l) (flat_alike (upward parents n) (upward parents m) (row_at parents p)
-        (all_from (λ q low. upward_enough parents down n m q (omega arith) (omega arith)) (row_at parents p) (down p)))
+    (all_from (λ q low. upward_enough parents down n m q (omega arith) (omega arith)) (row_at parents p) (down p)))
 
 -- a class and what is above it
 abbrev pub above_class : List (List ℕ) → ℕ → List ℕ
@@ -41,7 +41,7 @@ above_all parents cs = flat_map (above_class parents) cs
 above_class_is : (parents : List (List ℕ)) → IsDownward parents → (c : ℕ) → above_class parents c ≡ c ∷ above_all parents (row_at parents c)
 above_class_is parents down c =
     ap (λ l. c ∷ l) (flat_alike (upward parents c) (above_class parents) (row_at parents c)
-        (all_from (λ q low. upward_enough parents down c (suc q) q low (omega arith)) (row_at parents c) (down c)))
+    (all_from (λ q low. upward_enough parents down c (suc q) q low (omega arith)) (row_at parents c) (down c)))
 
 abbrev pub is_in : List ℕ → ℕ → Bool
 is_in xs z = has nat_cmp xs z
@@ -90,11 +90,11 @@ module _ (parents : List (List ℕ)) where
       match_all (λ l. is_above l z ≡ (is_above (k ∷ ks) z || is_in (above_class parents c) z)) (nat_cmp c k) (c ∷ k ∷ ks) (k ∷ ks) (k ∷ insert_key nat_cmp ks c)
       (λ _. is_in-append (above_class parents c) (above_all parents (k ∷ ks)) z ∙ or_comm (is_in (above_class parents c) z) (is_above (k ∷ ks) z))
       (λ e. first ∙ again_or (is_in (above_class parents k) z) (is_above ks z)
-          ∙ ap₂ (λ p q. p || q) (sym first) (ap (λ d. is_in (above_class parents d) z) (sym (nat_cmp-IsAntisymmetric c k e))))
+      ∙ ap₂ (λ p q. p || q) (sym first) (ap (λ d. is_in (above_class parents d) z) (sym (nat_cmp-IsAntisymmetric c k e))))
       (λ _. is_in-append (above_class parents k) (above_all parents (insert_key nat_cmp ks c)) z
-          ∙ ap (λ b. is_in (above_class parents k) z || b) (above_insert ks c z)
-          ∙ both_or (is_in (above_class parents k) z) (is_above ks z) (is_in (above_class parents c) z)
-          ∙ ap (λ b. b || is_in (above_class parents c) z) (sym first))
+      ∙ ap (λ b. is_in (above_class parents k) z || b) (above_insert ks c z)
+      ∙ both_or (is_in (above_class parents k) z) (is_above ks z) (is_in (above_class parents c) z)
+      ∙ ap (λ b. b || is_in (above_class parents c) z) (sym first))
 
   above_fold : (ks cs : List ℕ) (z : ℕ) → is_above (fold (insert_key nat_cmp) ks cs) z ≡ (is_above ks z || is_above cs z)
   above_fold ks [] z = or_false (is_above ks z)
@@ -112,18 +112,20 @@ module _ (parents : List (List ℕ)) where
   searched_start class = record { same = λ z. sym (or_false (is_above (class ∷ []) z)) ∙ is_in-append (above_class parents class) [] z ∙ sym (or_false (is_in (above_class parents class) z)) }
 
   pub searched_on : IsDownward parents → (class k : ℕ) (ks found : List ℕ) → IsSearched class (ks ++ k ∷ []) found → IsSearched class (fold (insert_key nat_cmp) ks (row_at parents k)) (insert_key nat_cmp found k)
-  searched_on down class k ks found before = record { same = λ z.
-      let a = is_above ks z in
-      let r = is_above (row_at parents k) z in
-      let e = is_eq (nat_cmp z k) in
-      let f = is_in found z in
-      let one = ap (λ l. is_in l z) (above_class_is parents down k) in
-      let last = is_in-append (above_class parents k) [] z ∙ ap (λ b. b || false) one in
-      let all = ap (λ l. is_in l z) (flat_map-append (above_class parents) ks (k ∷ [])) ∙ is_in-append (above_all parents ks) (above_class parents k ++ []) z ∙ ap (λ b. a || b) last in
-      ap₂ (λ p q. p || q) (above_fold ks (row_at parents k) z) (ap (λ l. is_in l z) (insert_same found k) ∙ has-insert_new nat_cmp_total found k z)
-      ∙ shuffle a r e f
-      ∙ ap (λ b. b || f) (sym all)
-      ∙ before.same z }
+  searched_on down class k ks found before = record {
+    same = λ z.
+        let a = is_above ks z in
+        let r = is_above (row_at parents k) z in
+        let e = is_eq (nat_cmp z k) in
+        let f = is_in found z in
+        let one = ap (λ l. is_in l z) (above_class_is parents down k) in
+        let last = is_in-append (above_class parents k) [] z ∙ ap (λ b. b || false) one in
+        let all = ap (λ l. is_in l z) (flat_map-append (above_class parents) ks (k ∷ [])) ∙ is_in-append (above_all parents ks) (above_class parents k ++ []) z ∙ ap (λ b. a || b) last in
+        ap₂ (λ p q. p || q) (above_fold ks (row_at parents k) z) (ap (λ l. is_in l z) (insert_same found k) ∙ has-insert_new nat_cmp_total found k z)
+        ∙ shuffle a r e f
+        ∙ ap (λ b. b || f) (sym all)
+        ∙ before.same z;
+  }
 
   pub searched_end : (class : ℕ) (found : List ℕ) → IsSearched class [] found → IsStrictlySortedBy nat_cmp found → found ≡ ancestors parents class
   searched_end class found done up = is_set nat_cmp_total nat_cmp-IsAntisymmetric found (above_class parents class) up done.same

@@ -1,5 +1,5 @@
 -- Classes by number, and their ancestors.
-use Rattle.std.specs.Prelude.{ℕ, zero, suc, ◌<◌, nat_eq, nat_lt, List, [], ◌∷◌, ◌++◌, map, filter, Option, slice_get, unwrap_or}
+use Rattle.std.specs.Prelude.{ℕ, zero, suc, ◌<◌, nat_eq, nat_lt, List, [], ◌∷◌, map, filter, Option, slice_get, unwrap_or}
 use Rattle.std.specs.List.{AllByRecursion, filter_map, flat_map, position_from}
 use Rattle.std.specs.Option.{option_and_then, option_map_or}
 use Rattle.std.specs.Ordering.{nat_cmp}

@@ -1,11 +1,10 @@
 -- Names that are declared twice in a space.
-use Rattle.std.specs.Prelude.{ℕ, Bool, ◌&&◌, if◌then◌else◌, List, [], ◌∷◌, Option, Some, None}
+use Rattle.std.specs.Prelude.{Bool, ◌&&◌, if◌then◌else◌, List, [], ◌∷◌, Option, Some, None}
 use Rattle.std.specs.declared.cmp.Ordering.{Ordering}
 use Rattle.std.specs.Ordering.{is_lt}
 use Rattle.use_orders.specs.Canon.{bag_of}
 use Rattle.use_text.specs.declared.place.Place.{Place}
 use Rattle.use_text.specs.contracts.place.PlaceOrd.TheImpl.{ghosts as place_ghosts}
-use Rattle.class_decls.specs.declared.entry.Space.{Space}
 use Rattle.class_decls.specs.declared.entry.Entry.{Entry}
 use Rattle.class_decls.specs.contracts.entry.SpacePartialEq.TheImpl.{ghosts as space_ghosts}
 use Rattle.class_decls.specs.contracts.entry.EntryOrd.TheImpl.{ghosts as entry_ghosts}

@@ -1,5 +1,5 @@
 -- The names that a model declares, each in its space.
-use Rattle.std.specs.Prelude.{ℕ, List, [], ◌∷◌, ◌++◌, map, Option, Some, None}
+use Rattle.std.specs.Prelude.{ℕ, List, ◌++◌, map, Option, Some, None}
 use Rattle.std.specs.List.{enumerate_from, filter_map, flat_map}
 use Rattle.use_text.specs.Places.{place_at}
 use Rattle.use_text.specs.declared.place.Place.{Place}
@@ -8,7 +8,6 @@ use Rattle.class_decls.specs.declared.decls.Decls.{Decls}
 use Rattle.class_decls.specs.declared.decls.OpDecl.{OpDecl}
 use Rattle.class_decls.specs.declared.decls.OpOf.{OpOf}
 use Rattle.class_decls.specs.declared.decls.OpOf.TheVariants.{Here, Named}
-use Rattle.class_decls.specs.declared.decls.CondDecl.{CondDecl}
 use Rattle.class_decls.specs.declared.decls.CondKind.{CondKind}
 use Rattle.class_decls.specs.declared.decls.CondKind.TheVariants.{Inv, Pre, Post}
 use Rattle.class_decls.specs.declared.entry.Space.{Space}

@@ -3,7 +3,6 @@ use Rattle.std.specs.Prelude.{ℕ, zero, suc, Bool, not, ◌&&◌, ◌||◌, nat
 use Rattle.std.specs.List.{filter_map, list_all, list_any, position_from}
 use Rattle.std.specs.Option.{option_and_then, option_map, option_map_or, option_or}
 use Rattle.use_text.specs.declared.place.Place.{Place}
-use Rattle.class_decls.specs.declared.decls.ClassDecl.{ClassDecl}
 use Rattle.class_decls.specs.declared.decls.Decls.{Decls}
 use Rattle.class_decls.specs.Texts.{same_text}
 

@@ -1,15 +1,14 @@
 -- Operations that override others.
-use Rattle.std.specs.Prelude.{ℕ, Bool, true, false, not, ◌&&◌, ◌||◌, if◌then◌else◌, List, [], ◌∷◌, Option, Some, None, slice_get, find}
+use Rattle.std.specs.Prelude.{ℕ, Bool, true, false, not, ◌&&◌, ◌||◌, if◌then◌else◌, List, Option, Some, None, slice_get, find}
 use Rattle.std.specs.List.{filter_map, list_all, list_any}
 use Rattle.std.specs.Option.{option_and_then, option_eq, option_map, option_map_or}
 use Rattle.std.specs.Cmp.Lexicographic.{pointwise}
-use Rattle.ocl_values.specs.declared.value.Kind.{Kind}
 use Rattle.ocl_values.specs.contracts.value.KindPartialEq.TheImpl.{ghosts as kind_ghosts}
 use Rattle.use_text.specs.declared.place.Place.{Place}
 use Rattle.class_decls.specs.declared.clash.Clash.{Clash}
 use Rattle.class_decls.specs.declared.clash.Clash.TheVariants as r
 use Rattle.class_decls.specs.declared.decls.BodyKind.{BodyKind}
-use Rattle.class_decls.specs.declared.decls.BodyKind.TheVariants.{Bare, Query, Soil}
+use Rattle.class_decls.specs.declared.decls.BodyKind.TheVariants.{Query, Soil}
 use Rattle.class_decls.specs.declared.decls.ClassDecl.{ClassDecl}
 use Rattle.class_decls.specs.declared.decls.CondDecl.{CondDecl}
 use Rattle.class_decls.specs.declared.decls.Decls.{Decls}

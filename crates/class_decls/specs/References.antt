@@ -1,10 +1,9 @@
 -- The names by which a model's declarations speak of its classes and types.
 use Rattle.std.specs.Prelude.{ℕ, Bool, not, ◌||◌, List, [], ◌∷◌, ◌++◌, map, filter, Option}
 use Rattle.std.specs.List.{flat_map, list_any}
-use Rattle.std.specs.Option.{option_map, option_to_list}
+use Rattle.std.specs.Option.{option_to_list}
 use Rattle.use_text.specs.declared.place.Place.{Place}
 use Rattle.class_decls.specs.declared.decls.Name.{Name}
-use Rattle.class_decls.specs.declared.decls.TypeDecl.{TypeDecl}
 use Rattle.class_decls.specs.declared.decls.OpDecl.{OpDecl}
 use Rattle.class_decls.specs.declared.decls.Decls.{Decls}
 use Rattle.class_decls.specs.Texts.{is_plain_type, same_text}

@@ -1,7 +1,6 @@
 -- The rules of a well-formed model, tried in order.
 use Rattle.std.specs.Prelude.{◌≡◌, ⊤, ℕ, List, [], ◌∷◌, Option, Some, None, Result, Ok, Err}
 use Rattle.std.specs.Option.{option_map, option_or}
-use Rattle.use_text.specs.declared.code.Code.{Code}
 use Rattle.use_text.specs.declared.code.Family.TheVariants.{M}
 use Rattle.use_text.specs.declared.place.Place.{Place}
 use Rattle.use_text.specs.declared.refusal.Refusal.{Refusal}

@@ -75,8 +75,7 @@ fn clashes(kind: Clash, op: &OpDecl, other: &OpDecl) -> bool
 fn clashes_among(kind: Clash, op: &OpDecl, ops: &[OpDecl]) -> bool
     ensures { result ≡ list_any (λ other. same_text other.name.text op.now.name.text && clash kind op.now other) ops.now }
 {
-    ops.iter()
-        .any(|other| other.name.text == op.name.text && clashes(kind, op, other))
+    ops.iter().any(|other| other.name.text == op.name.text && clashes(kind, op, other))
 }
 
 fn clashes_in(kind: Clash, op: &OpDecl, classes: &[&ClassDecl]) -> bool

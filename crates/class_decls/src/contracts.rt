@@ -41,7 +41,10 @@ fn counts(cond: &CondDecl, op: &OpDecl, classes: &[&ClassDecl]) -> bool
 fn contracts_above(conds: &[CondDecl], op: &OpDecl, classes: &[&ClassDecl]) -> usize
     ensures { result ≡ count_by (λ c. is_contract_of op.now.name.text c && list_any (λ d. same_text d.now.name.text c.class.text) classes.now) conds.now }
 {
-    conds.iter().filter(|cond| counts(cond, op, classes)).count()
+    conds
+        .iter()
+        .filter(|cond| counts(cond, op, classes))
+        .count()
 }
 
 /// How many contracts an operation has, with those of the declarations that it overrides.

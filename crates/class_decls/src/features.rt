@@ -82,8 +82,20 @@ fn add_roles(
     ensures { OnOk result (texts.new.items ≡ texts.old.items ++ flat_map (λ a. roles_in a class.now) assocs.now) }
 {
     'assocs: for assoc in assocs {
-        add_role(alloc, &class.name, &assoc.first.class, &assoc.second.role, texts)?;
-        add_role(alloc, &class.name, &assoc.second.class, &assoc.first.role, texts)?;
+        add_role(
+            alloc,
+            &class.name,
+            &assoc.first.class,
+            &assoc.second.role,
+            texts,
+        )?;
+        add_role(
+            alloc,
+            &class.name,
+            &assoc.second.class,
+            &assoc.first.role,
+            texts,
+        )?;
     }
     Ok(())
 }
@@ -104,10 +116,7 @@ fn role_texts(
 }
 
 /// Whether an attribute is met twice in a class, given with its ancestors.
-pub(crate) fn meets_attribute_twice(
-    alloc: Global,
-    above: &[&ClassDecl],
-) -> Result<bool, AllocError>
+pub(crate) fn meets_attribute_twice(alloc: Global, above: &[&ClassDecl]) -> Result<bool, AllocError>
     ensures { IfOk result (λ b. b ≡ repeats (attrs_of (map (λ c. c.now) above.now))) }
 {
     let texts = attr_texts(alloc, above)?;
@@ -139,10 +148,7 @@ pub(crate) fn role_clashes(
 }
 
 /// Whether a class, given with its ancestors, has too many attributes or operations.
-pub(crate) fn has_too_many_features(
-    alloc: Global,
-    above: &[&ClassDecl],
-) -> Result<bool, AllocError>
+pub(crate) fn has_too_many_features(alloc: Global, above: &[&ClassDecl]) -> Result<bool, AllocError>
     ensures { IfOk result (λ b. b ≡ (nat_lt 64 (length (attrs_of (map (λ c. c.now) above.now))) || nat_lt 64 (length (ops_of (map (λ c. c.now) above.now))))) }
 {
     let attrs = attr_texts(alloc, above)?;

@@ -18,8 +18,7 @@ use use_text::Place;
 fn has_head(ops: &[OpDecl], head: &OpDecl) -> bool
     ensures { result ≡ list_any (λ op. same_text op.name.text head.now.name.text && same_signature op head.now) ops.now }
 {
-    ops.iter()
-        .any(|op| op.name.text == head.name.text && same_signature(op, head))
+    ops.iter().any(|op| op.name.text == head.name.text && same_signature(op, head))
 }
 
 /// Whether the class of a name declares an operation of this head's name and types.
@@ -67,10 +66,7 @@ fn first_undeclared(decls: &Decls, places: &Places, conds: &[CondDecl]) -> Optio
 }
 
 /// M12: the first operation that a context names and its class does not declare.
-pub(crate) fn no_such_operation(
-    alloc: Global,
-    decls: &Decls,
-) -> Result<Option<Place>, AllocError>
+pub(crate) fn no_such_operation(alloc: Global, decls: &Decls) -> Result<Option<Place>, AllocError>
     ensures { IfOk result (λ place. place ≡ no_such_operation decls.now) }
 {
     let places = class_places(alloc, decls)?;

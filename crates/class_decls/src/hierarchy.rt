@@ -95,7 +95,11 @@ fn add_class<'a>(
 fn numbers_below(alloc: Global, numbers: &[usize], most: usize) -> Result<Vec<usize>, AllocError>
     ensures { IfOk result (λ v. v.items ≡ filter (λ c. nat_lt c most) numbers.now) }
 {
-    numbers.iter().copied().filter(|number| *number < most).collect(alloc)
+    numbers
+        .iter()
+        .copied()
+        .filter(|number| *number < most)
+        .collect(alloc)
 }
 
 impl<'a> Hierarchy<'a> {

@@ -2,17 +2,17 @@
 #![tactic(auto)]
 
 mod ancestors;
-mod class_rules;
 mod clash;
+mod class_rules;
 mod contracts;
 mod cycles;
 mod decls;
 mod entry;
-mod name_set;
-mod limits;
 mod features;
 mod heads;
 mod hierarchy;
+mod limits;
+mod name_set;
 mod names;
 mod numbering;
 mod numbers;
@@ -22,10 +22,13 @@ mod references;
 mod repeats;
 mod rules;
 
+pub use clash::Clash;
 pub use decls::{
     AssocDecl, AttrDecl, BodyKind, ClassDecl, CondDecl, CondKind, Decls, EndDecl, EnumDecl,
     MultPart, Name, OpDecl, OpOf, ParamDecl, TypeDecl,
 };
-pub use clash::Clash;
 pub use entry::{Entry, Space};
 pub use rules::{RuleFault, judge};
+
+#[cfg(test)]
+mod tests;

@@ -71,14 +71,20 @@ pub(crate) fn too_many_literals(decls: &Decls) -> Option<Place>
 fn is_bad_part(part: &MultPart) -> bool
     ensures { result ≡ is_bad_part part.now }
 {
-    part.low > LARGEST || part.high.is_some_and(|high| high < part.low || high > LARGEST || high < 1)
+    part.low > LARGEST
+        || part
+            .high
+            .is_some_and(|high| high < part.low || high > LARGEST || high < 1)
 }
 
 fn bad_part(end: &EndDecl) -> Option<Place>
     ensures { result ≡ bad_part end.now }
 {
     let parts = end.parts.as_slice();
-    parts.iter().find(|part| is_bad_part(part)).map(|part| part.place)
+    parts
+        .iter()
+        .find(|part| is_bad_part(part))
+        .map(|part| part.place)
 }
 
 fn bad_end(assoc: &AssocDecl) -> Option<Place>

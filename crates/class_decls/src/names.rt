@@ -77,11 +77,7 @@ fn add_types(alloc: Global, decls: &Decls, names: &mut Vec<Entry>) -> Result<(),
     Ok(())
 }
 
-fn add_literals(
-    alloc: Global,
-    enums: &[EnumDecl],
-    names: &mut Vec<Entry>,
-) -> Result<(), AllocError>
+fn add_literals(alloc: Global, enums: &[EnumDecl], names: &mut Vec<Entry>) -> Result<(), AllocError>
     ensures { OnOk result (names.new.items ≡ names.old.items ++ numbered (λ i e. map (entry (s.Literals i)) e.literals) enums.now) }
 {
     'enums: for (i, e) in enums.iter().enumerate() {
@@ -90,11 +86,7 @@ fn add_literals(
     Ok(())
 }
 
-fn add_conds(
-    alloc: Global,
-    conds: &[CondDecl],
-    names: &mut Vec<Entry>,
-) -> Result<(), AllocError>
+fn add_conds(alloc: Global, conds: &[CondDecl], names: &mut Vec<Entry>) -> Result<(), AllocError>
     ensures { OnOk result (names.new.items ≡ names.old.items ++ map (λ c. entry (cond_space c.class.text c.kind) c.name) conds.now) }
 {
     'conds: for cond in conds {
@@ -160,11 +152,7 @@ pub(crate) fn heads<'a>(alloc: Global, decls: &'a Decls) -> Result<Vec<&'a OpDec
     Ok(found)
 }
 
-fn add_params(
-    alloc: Global,
-    heads: &[&OpDecl],
-    names: &mut Vec<Entry>,
-) -> Result<(), AllocError>
+fn add_params(alloc: Global, heads: &[&OpDecl], names: &mut Vec<Entry>) -> Result<(), AllocError>
     ensures { OnOk result (names.new.items ≡ names.old.items ++ numbered (λ i op. params_of i op.now) heads.now) }
 {
     'heads: for (i, head) in heads.iter().enumerate() {
@@ -188,11 +176,7 @@ fn add_parents(
     Ok(())
 }
 
-fn add_ops(
-    alloc: Global,
-    classes: &[ClassDecl],
-    names: &mut Vec<Entry>,
-) -> Result<(), AllocError>
+fn add_ops(alloc: Global, classes: &[ClassDecl], names: &mut Vec<Entry>) -> Result<(), AllocError>
     ensures { OnOk result (names.new.items ≡ names.old.items ++ numbered (λ i c. map (λ op. entry (s.Operations i) op.name) c.ops) classes.now) }
 {
     'classes: for (i, class) in classes.iter().enumerate() {
@@ -202,10 +186,7 @@ fn add_ops(
 }
 
 /// M1: the first name that is declared for the second time in its space.
-pub(crate) fn name_declared_twice(
-    alloc: Global,
-    decls: &Decls,
-) -> Result<Option<Place>, AllocError>
+pub(crate) fn name_declared_twice(alloc: Global, decls: &Decls) -> Result<Option<Place>, AllocError>
     ensures { IfOk result (λ place. place ≡ name_declared_twice decls.now) }
 {
     let mut names = Vec::new(alloc);
@@ -219,10 +200,7 @@ pub(crate) fn name_declared_twice(
 }
 
 /// M3: the first parent that a class names for the second time.
-pub(crate) fn parent_named_twice(
-    alloc: Global,
-    decls: &Decls,
-) -> Result<Option<Place>, AllocError>
+pub(crate) fn parent_named_twice(alloc: Global, decls: &Decls) -> Result<Option<Place>, AllocError>
     ensures { IfOk result (λ place. place ≡ parent_named_twice decls.now) }
 {
     let mut names = Vec::new(alloc);

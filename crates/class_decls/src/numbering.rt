@@ -60,10 +60,7 @@ fn next_place(parents: &[Items<usize>], done: &[bool], from: usize) -> Option<us
 
 /// Where the class of each number stands: each time, the first class that may follow gets the next
 /// number.
-pub(crate) fn numbering(
-    alloc: Global,
-    parents: &[Items<usize>],
-) -> Result<Vec<usize>, AllocError>
+pub(crate) fn numbering(alloc: Global, parents: &[Items<usize>]) -> Result<Vec<usize>, AllocError>
     ensures { IfOk result (λ v. v.items ≡ numbering parents.now) }
 {
     let mut order = Vec::new(alloc);

@@ -33,17 +33,10 @@ fn is_among(numbers: &[usize], number: usize) -> bool
 }
 
 /// Whether those of some classes that declare an operation are all among others.
-fn all_among(
-    hierarchy: &Hierarchy<'_>,
-    name: &Text,
-    classes: &[usize],
-    others: &[usize],
-) -> bool
+fn all_among(hierarchy: &Hierarchy<'_>, name: &Text, classes: &[usize], others: &[usize]) -> bool
     ensures { result ≡ list_all (λ d. not (declares_op hierarchy.now.decls.now name.now d) || is_among others.now d) classes.now }
 {
-    classes
-        .iter()
-        .all(|class| !declares_op(hierarchy, name, *class) || is_among(others, *class))
+    classes.iter().all(|class| !declares_op(hierarchy, name, *class) || is_among(others, *class))
 }
 
 /// Whether a class declares an operation, and so overrides all other declarations of its name in

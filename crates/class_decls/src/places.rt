@@ -31,7 +31,11 @@ fn places_of(alloc: Global, classes: &[ClassDecl]) -> Result<Places, AllocError>
 {
     let mut places = BTreeMap::new(alloc);
     'classes: for (i, class) in classes.iter().enumerate() {
-        add_place(&mut places, Text::copy_of(alloc, class.name.text.as_str())?, i)?;
+        add_place(
+            &mut places,
+            Text::copy_of(alloc, class.name.text.as_str())?,
+            i,
+        )?;
     }
     Ok(places)
 }

@@ -70,10 +70,7 @@ fn add_names<'a>(names: &'a [Name], found: &mut Vec<&'a Name>) -> Result<(), All
     Ok(())
 }
 
-fn add_parents<'a>(
-    classes: &'a [ClassDecl],
-    found: &mut Vec<&'a Name>,
-) -> Result<(), AllocError>
+fn add_parents<'a>(classes: &'a [ClassDecl], found: &mut Vec<&'a Name>) -> Result<(), AllocError>
     ensures { OnOk result (map (λ n. n.now) found.new.items ≡ map (λ n. n.now) found.old.items ++ flat_map (λ c. c.parents) classes.now) }
 {
     'classes: for class in classes {
@@ -155,10 +152,7 @@ fn add_class_types<'a>(
     Ok(())
 }
 
-fn add_types_of_heads<'a>(
-    heads: &[&'a OpDecl],
-    found: &mut Vec<&'a Name>,
-) -> Result<(), AllocError>
+fn add_types_of_heads<'a>(heads: &[&'a OpDecl], found: &mut Vec<&'a Name>) -> Result<(), AllocError>
     ensures { OnOk result (map (λ n. n.now) found.new.items ≡ map (λ n. n.now) found.old.items ++ flat_map (λ h. head_types h.now) heads.now) }
 {
     'heads: for head in heads {

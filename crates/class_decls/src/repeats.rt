@@ -18,13 +18,7 @@ pub(crate) fn earlier(place: Place, other: Option<Place>) -> Place
 {
     match other {
         None => place,
-        Some(q) => {
-            if q.cmp(&place).is_lt() {
-                q
-            } else {
-                place
-            }
-        }
+        Some(q) => { if q.cmp(&place).is_lt() { q } else { place } }
     }
 }
 

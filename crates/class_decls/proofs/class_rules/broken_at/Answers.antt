@@ -3,8 +3,15 @@ use Rattle.class_decls.proofs.class_rules.broken_at.Goals as goal
 
 pub returns-in_ok-broken-in-RoleClashes : goal.returns-in_ok-broken-in-RoleClashes
 returns-in_ok-broken-in-RoleClashes c =
-    rw (c.in-RoleClashes.is, c.named_if-in-RoleClashes.ensures, c.in_ok-broken-in-RoleClashes.ensures, c.as_slice-in-RoleClashes.ensures, c.as_slice-in-RoleClashes-2.ensures.value,
-        c.in_ok-above-in-RoleClashes.ensures, c.decls-decls.ensures) refl
+    rw (
+      c.in-RoleClashes.is,
+      c.named_if-in-RoleClashes.ensures,
+      c.in_ok-broken-in-RoleClashes.ensures,
+      c.as_slice-in-RoleClashes.ensures,
+      c.as_slice-in-RoleClashes-2.ensures.value,
+      c.in_ok-above-in-RoleClashes.ensures,
+      c.decls-decls.ensures,
+    ) refl
 
 pub returns-in_ok-above-in-SignatureChanges : goal.returns-in_ok-above-in-SignatureChanges
 returns-in_ok-above-in-SignatureChanges c =

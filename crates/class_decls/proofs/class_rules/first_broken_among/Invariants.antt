@@ -1,4 +1,4 @@
-use Rattle.std.proofs.Common.{◌≡◌, ◌++◌, ◌∷◌, [], map, take}
+use Rattle.std.proofs.Common.{◌≡◌}
 use Rattle.std.proofs.Common.{drop}
 use Rattle.class_decls.specs.ClassRules.{broken_by}
 use Rattle.class_decls.specs.Texts.{first_numbered}

@@ -1,4 +1,4 @@
-use Rattle.std.proofs.Common.{◌≡◌, suc, ◌+◌, length, true, sym, ap, ◌∙◌, arith}
+use Rattle.std.proofs.Common.{◌≡◌, suc, ◌+◌, length, sym, ap, ◌∙◌, arith}
 use Rattle.class_decls.specs.Numbering.{closes_cycle, has_cycle}
 use Rattle.class_decls.proofs.Least.{least_found}
 use Rattle.class_decls.proofs.cycles.closing_class.Goals as goal
@@ -7,4 +7,4 @@ pub returns-then-closes : goal.returns-then-closes
 returns-then-closes c =
     let next : suc c.places.place ≡ c.places.place + 1 = omega arith in
     sym (least_found (closes_cycle c.args.parents.now) (length c.args.parents.now) c.places.place c.places.invariant
-        (ap (has_cycle c.args.parents.now) next ∙ sym c.in_ok-closes.ensures ∙ c.if-closes.true) c.places-test.true)
+    (ap (has_cycle c.args.parents.now) next ∙ sym c.in_ok-closes.ensures ∙ c.if-closes.true) c.places-test.true)

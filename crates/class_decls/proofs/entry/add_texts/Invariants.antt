@@ -1,4 +1,4 @@
-use Rattle.std.proofs.Common.{◌≡◌, ◌++◌, ◌∷◌, [], map, take}
+use Rattle.std.proofs.Common.{◌≡◌, ◌++◌, map, take}
 use Rattle.class_decls.proofs.entry.add_texts.Given as goal
 
 abbrev pub invariant-items : goal.invariant-items

@@ -1,5 +1,5 @@
 use Rattle.std.proofs.Common.{◌∙◌, sym, ap}
-use Rattle.std.specs.Option.{is_some, option_or}
+use Rattle.std.specs.Option.{is_some}
 use Rattle.class_decls.proofs.Given.{given_at, given_none, none_from}
 use Rattle.class_decls.specs.Operations.{undeclared_head}
 use Rattle.class_decls.proofs.heads.first_undeclared.Goals as goal

@@ -1,4 +1,4 @@
-use Rattle.std.proofs.Common.{◌≡◌, ◌++◌, ◌∷◌, [], map, take}
+use Rattle.std.proofs.Common.{◌≡◌, map, take}
 use Rattle.std.proofs.Common.{None, get_or}
 use Rattle.std.specs.List.{filter_map}
 use Rattle.class_decls.specs.Numbering.{row_at}

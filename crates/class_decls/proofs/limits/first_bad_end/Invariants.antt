@@ -1,4 +1,4 @@
-use Rattle.std.proofs.Common.{◌≡◌, ◌++◌, ◌∷◌, [], map, take}
+use Rattle.std.proofs.Common.{◌≡◌, take}
 use Rattle.std.proofs.Common.{None}
 use Rattle.class_decls.specs.Texts.{first_given}
 use Rattle.std.specs.Option.{option_or}

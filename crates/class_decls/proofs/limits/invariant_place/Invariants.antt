@@ -1,4 +1,4 @@
-use Rattle.std.proofs.Common.{◌≡◌, ◌++◌, ◌∷◌, [], map, take}
+use Rattle.std.proofs.Common.{◌≡◌}
 use Rattle.std.specs.Prelude.{drop, filter, slice_get}
 use Rattle.std.specs.Option.{option_map}
 use Rattle.class_decls.specs.Limits.{is_invariant}

@@ -7,4 +7,4 @@ use Rattle.class_decls.proofs.names.add_literals.Goals as goal
 pub enums-preserved : goal.enums-preserved
 enums-preserved c =
     rw (c.in_ok-add_entries.ensures, c.as_slice.ensures, c.enums.invariant)
-        (numbered_more (λ i e. map (entry (s.Literals i)) e.literals) _ _ _ _ c.enums-test.true c.index-enums-i.is)
+    (numbered_more (λ i e. map (entry (s.Literals i)) e.literals) _ _ _ _ c.enums-test.true c.index-enums-i.is)

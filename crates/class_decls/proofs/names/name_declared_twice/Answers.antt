@@ -9,8 +9,8 @@ pub returns : goal.returns
 returns c =
     let params = numbered-map params_of (λ h. h.now) c.in_ok-heads.heads.items ∙ ap (numbered params_of) c.in_ok-heads.ensures in
     c.in_ok-place.ensures ∙ ap declared_again
-        (joined4 [] (type_entries c.args.decls.now) _ _ _ _ _ _ _
-            (rw c.new-names.ensures.items at c.in_ok-add_types.ensures)
-            (rw c.as_slice.ensures at c.in_ok-add_literals.ensures)
-            (rw (c.as_slice-2.ensures.value, params) at c.in_ok-add_params.ensures)
-            (rw c.as_slice-3.ensures at c.in_ok-add_conds.ensures))
+    (joined4 [] (type_entries c.args.decls.now) _ _ _ _ _ _ _
+    (rw c.new-names.ensures.items at c.in_ok-add_types.ensures)
+    (rw c.as_slice.ensures at c.in_ok-add_literals.ensures)
+    (rw (c.as_slice-2.ensures.value, params) at c.in_ok-add_params.ensures)
+    (rw c.as_slice-3.ensures at c.in_ok-add_conds.ensures))

@@ -1,6 +1,4 @@
-use Rattle.std.proofs.Common.{◌≡◌, ◌<◌, ◌≤◌, ◌-◌, ℕ, true, length, get_or}
-use Rattle.class_decls.specs.Numbering.{numbered_on, numbering}
-use Rattle.class_decls.proofs.Flags.{IsFlagged, IsNumberedSoFar}
+use Rattle.class_decls.proofs.Flags.{IsNumberedSoFar}
 use Rattle.class_decls.proofs.numbering.numbering.Given as goal
 
 abbrev pub invariant-numbers : goal.invariant-numbers

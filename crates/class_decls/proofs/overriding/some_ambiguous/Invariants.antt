@@ -1,4 +1,4 @@
-use Rattle.std.proofs.Common.{◌≡◌, ◌++◌, ◌∷◌, [], map, take}
+use Rattle.std.proofs.Common.{◌≡◌, take}
 use Rattle.std.proofs.Common.{false, not}
 use Rattle.std.specs.List.{list_any}
 use Rattle.class_decls.specs.Operations.{has_overriding}

@@ -1,4 +1,4 @@
-use Rattle.std.proofs.Common.{◌≡◌, ◌++◌, ◌∷◌, [], map, take}
+use Rattle.std.proofs.Common.{◌≡◌, ◌++◌, map, take}
 use Rattle.class_decls.proofs.references.add_contexts.Given as goal
 
 abbrev pub invariant-conds : goal.invariant-conds

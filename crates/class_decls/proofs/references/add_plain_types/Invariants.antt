@@ -1,4 +1,4 @@
-use Rattle.std.proofs.Common.{◌≡◌, ◌++◌, ◌∷◌, [], map, take}
+use Rattle.std.proofs.Common.{◌≡◌, ◌++◌, map, take}
 use Rattle.class_decls.proofs.references.add_plain_types.Given as goal
 
 abbrev pub invariant-names : goal.invariant-names

@@ -1,4 +1,4 @@
-use Rattle.std.proofs.Common.{◌≡◌, ◌≤◌, ◌-◌, true, false, refl, sym, ◌∙◌, arith}
+use Rattle.std.proofs.Common.{◌≡◌, true, false, refl, sym, ◌∙◌, arith}
 use Rattle.class_decls.specs.Texts.{has_text}
 use Rattle.class_decls.proofs.Backward.{drop_all, drop_before}
 use Rattle.class_decls.proofs.references.first_outside.Goals as goal

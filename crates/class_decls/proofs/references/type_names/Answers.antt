@@ -1,7 +1,6 @@
 use Rattle.std.proofs.Common.{◌∙◌, ◌||◌, ap, ap₂, map, ◌++◌}
 use Rattle.std.proofs.lemmas.List.Folds.{list_any-append}
 use Rattle.class_decls.specs.Texts.{has_text, plain_types, same_text}
-use Rattle.class_decls.proofs.Joined.{joined2}
 use Rattle.class_decls.proofs.TextSets.{any-map}
 use Rattle.class_decls.proofs.references.type_names.Goals as goal
 
@@ -16,5 +15,5 @@ returns c = λ t.
     ∙ ap (λ l. has_text l t) (classes ∙ ap (λ l. l ++ more) (enums ∙ ap (λ l. l ++ both) plain))
     ∙ list_any-append (λ y. same_text y t) (plain_types ++ both) more
     ∙ ap₂ (λ a b. a || b)
-        (list_any-append (λ y. same_text y t) plain_types both ∙ ap (λ b. has_text plain_types t || b) (any-map (λ y. same_text y t) (λ e. e.name.text) c.args.decls.now.enums))
-        (any-map (λ y. same_text y t) (λ c. c.name.text) c.args.decls.now.classes)
+    (list_any-append (λ y. same_text y t) plain_types both ∙ ap (λ b. has_text plain_types t || b) (any-map (λ y. same_text y t) (λ e. e.name.text) c.args.decls.now.enums))
+    (any-map (λ y. same_text y t) (λ c. c.name.text) c.args.decls.now.classes)

@@ -1,4 +1,4 @@
-use Rattle.std.proofs.Common.{refl, ◌≡◌, ◌≤◌, ◌-◌, suc, length, sym, ap, ◌∙◌, true, false, arith}
+use Rattle.std.proofs.Common.{refl, ◌≡◌, ◌-◌, suc, length, sym, ap, ◌∙◌, true, false, arith}
 use Rattle.class_decls.specs.Entries.{first_place, is_same_name}
 use Rattle.class_decls.proofs.Repeated.{again-drop, again-end}
 use Rattle.class_decls.proofs.repeats.first_again.Goals as goal

@@ -6,6 +6,10 @@ use Rattle.class_decls.proofs.hierarchy.Hierarchy.classes.Goals as goal
 
 pub numbers-preserved : goal.numbers-preserved
 numbers-preserved c =
-    rw (c.in_ok-add_class.ensures, c.class.ensures, c.numbers.invariant,
-        filter_map_more (class_numbered c.args.self.now.decls.now) c.args.numbers.now c.numbers.number-index (get_or c.args.numbers.now c.numbers.number-index 0) c.numbers-test.true
-            (default_alike c.args.numbers.now c.numbers.number-index 0 (get_or c.args.numbers.now c.numbers.number-index 0) c.numbers-test.true)) refl
+    rw (
+      c.in_ok-add_class.ensures,
+      c.class.ensures,
+      c.numbers.invariant,
+      filter_map_more (class_numbered c.args.self.now.decls.now) c.args.numbers.now c.numbers.number-index (get_or c.args.numbers.now c.numbers.number-index 0) c.numbers-test.true
+          (default_alike c.args.numbers.now c.numbers.number-index 0 (get_or c.args.numbers.now c.numbers.number-index 0) c.numbers-test.true),
+    ) refl
