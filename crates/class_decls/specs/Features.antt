@@ -18,12 +18,16 @@ roles_in a c =
     (if same_text a.first.class.text c.name.text then a.second.role.text ∷ [] else [])
     ++ (if same_text a.second.class.text c.name.text then a.first.role.text ∷ [] else [])
 
-abbrev pub roles_of : Decls → List ClassDecl → List (List ℕ)
-roles_of ds classes = flat_map (λ c. flat_map (λ a. roles_in a c) ds.assocs) classes
+abbrev pub roles_of : List AssocDecl → List ClassDecl → List (List ℕ)
+roles_of assocs classes = flat_map (λ c. flat_map (λ a. roles_in a c) assocs) classes
 
 -- whether two lists have a text in common
 abbrev pub meet : List (List ℕ) → List (List ℕ) → Bool
 meet xs ys = list_any (has_text ys) xs
+
+-- whether a role is named as another role or an attribute
+abbrev pub has_role_clash : List AssocDecl → List ClassDecl → Bool
+has_role_clash assocs classes = repeats (roles_of assocs classes) || meet (roles_of assocs classes) (attrs_of classes)
 
 -- the place that a test of each class and of where it stands gives first
 abbrev pub first_in_classes : (ℕ → ClassDecl → Option Place) → Decls → Option Place
@@ -39,4 +43,4 @@ attribute_met_twice ds = first_in_classes (λ i c. named_if (repeats (attrs_of (
 
 -- M6: role clashes with another role or an attribute
 abbrev pub role_clashes : Decls → Option Place
-role_clashes ds = first_in_classes (λ i c. named_if (repeats (roles_of ds (above ds i)) || meet (roles_of ds (above ds i)) (attrs_of (above ds i))) c) ds
+role_clashes ds = first_in_classes (λ i c. named_if (has_role_clash ds.assocs (above ds i)) c) ds

@@ -55,10 +55,13 @@ signature_changes ds = first_in_classes (λ i. first_op (clashes_above r.Signatu
 abbrev pub declares_op : Decls → List ℕ → ℕ → Bool
 declares_op ds text c = option_map_or (λ d. list_any (λ op. same_text op.name.text text) d.ops) (class_numbered ds c) false
 
--- of some classes, one that declares an operation has among its ancestors all the others that declare it
+-- a class declares an operation, and has among its ancestors all others of some classes that declare it
+abbrev pub overrides_all : Decls → List ℕ → List ℕ → ℕ → Bool
+overrides_all ds classes text c =
+    declares_op ds text c && list_all (λ d. not (declares_op ds text d) || is_among (ancestors (parent_numbers ds) c) d) classes
+
 abbrev pub has_overriding : Decls → List ℕ → List ℕ → Bool
-has_overriding ds classes text =
-    list_any (λ c. declares_op ds text c && list_all (λ d. not (declares_op ds text d) || is_among (ancestors (parent_numbers ds) c) d) classes) classes
+has_overriding ds classes text = list_any (overrides_all ds classes text) classes
 
 -- whether no declaration of an operation of some classes overrides all others of its name
 abbrev pub is_ambiguous : Decls → List ℕ → Bool
@@ -75,7 +78,8 @@ bodies_mixed ds = first_in_classes (λ i. first_op (clashes_above r.Bodies (prop
 -- whether the class of a name declares an operation of this head's name and types
 abbrev pub declares_head : Decls → List ℕ → OpDecl → Bool
 declares_head ds class head =
-    option_map_or (λ c. list_any (λ op. same_text op.name.text head.name.text && same_signature op head) c.ops) (option_and_then (slice_get ds.classes) (class_at ds class)) false
+    option_map_or (λ c. list_any (λ op. same_text op.name.text head.name.text && same_signature op head) c.ops)
+    (option_and_then (slice_get ds.classes) (class_at ds class)) false
 
 -- where a context names a head that its class does not declare
 abbrev pub undeclared_head : Decls → CondDecl → Option Place

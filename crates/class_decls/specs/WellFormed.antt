@@ -50,7 +50,9 @@ broken_counts ds = first_refusal (broken_at 17 (too_many_contracts ds) ∷ broke
 -- the least rule that the declarations break, at its first place; none where they are well formed
 abbrev pub broken_rule : Decls → Option Refusal
 broken_rule ds =
-    first_refusal (broken_names ds ∷ broken_at 4 (inheritance_cycle ds) ∷ broken_features ds ∷ broken_overriding ds ∷ broken_parts ds ∷ broken_sizes ds ∷ broken_counts ds ∷ [])
+    first_refusal
+    (broken_names ds ∷ broken_at 4 (inheritance_cycle ds) ∷ broken_features ds ∷ broken_overriding ds ∷ broken_parts ds
+    ∷ broken_sizes ds ∷ broken_counts ds ∷ [])
 
 -- a judgement tells a refusal, or that there is none
 abbrev pub Tells : Option Refusal → Result (Unit {0}) RuleFault → Type 0

@@ -3,7 +3,7 @@ ghost use Rattle.std.specs.Cmp.Lexicographic.{slice_cmp};
 ghost use Rattle.std.specs.Ordering.{nat_cmp};
 ghost use Rattle.use_orders.specs.Canon.{set_of};
 ghost use Rattle.std.specs.List.{flat_map};
-ghost use Rattle.class_decls.specs.Features.{attrs_of, meet, roles_in};
+ghost use Rattle.class_decls.specs.Features.{attrs_of, has_role_clash, meet, roles_in, roles_of};
 ghost use Rattle.class_decls.specs.Limits.{ops_of};
 ghost use Rattle.class_decls.specs.Texts.{repeats, same_text};
 
@@ -106,7 +106,7 @@ fn role_texts(
     assocs: &[AssocDecl],
     classes: &[&ClassDecl],
 ) -> Result<Vec<Text>, AllocError>
-    ensures { IfOk result (λ v. v.items ≡ flat_map (λ c. flat_map (λ a. roles_in a c) assocs.now) (map (λ c. c.now) classes.now)) }
+    ensures { IfOk result (λ v. v.items ≡ roles_of assocs.now (map (λ c. c.now) classes.now)) }
 {
     let mut texts = Vec::new(alloc);
     'classes: for class in classes {
@@ -138,7 +138,7 @@ pub(crate) fn role_clashes(
     assocs: &[AssocDecl],
     above: &[&ClassDecl],
 ) -> Result<bool, AllocError>
-    ensures { IfOk result (λ b. b ≡ (repeats (flat_map (λ c. flat_map (λ a. roles_in a c) assocs.now) (map (λ c. c.now) above.now)) || meet (flat_map (λ c. flat_map (λ a. roles_in a c) assocs.now) (map (λ c. c.now) above.now)) (attrs_of (map (λ c. c.now) above.now)))) }
+    ensures { IfOk result (λ b. b ≡ has_role_clash assocs.now (map (λ c. c.now) above.now)) }
 {
     let roles = role_texts(alloc, assocs, above)?;
     let attrs = attr_texts(alloc, above)?;

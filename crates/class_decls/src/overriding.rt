@@ -2,7 +2,7 @@ ghost use Rattle.std.specs.Prelude.{◌≡◌, ◌&&◌, ◌||◌, ℕ, IfOk, no
 ghost use Rattle.std.specs.List.{list_all, list_any};
 ghost use Rattle.class_decls.specs.Ancestors.{ancestors, class_numbered, parent_numbers};
 ghost use Rattle.class_decls.specs.Numbering.{is_among};
-ghost use Rattle.class_decls.specs.Operations.{declares_op, has_overriding, is_ambiguous};
+ghost use Rattle.class_decls.specs.Operations.{declares_op, has_overriding, is_ambiguous, overrides_all};
 ghost use Rattle.class_decls.specs.Texts.{same_text};
 
 use crate::hierarchy::Hierarchy;
@@ -48,7 +48,7 @@ fn overrides_all(
     classes: &[usize],
     class: usize,
 ) -> Result<bool, AllocError>
-    ensures { IfOk result (λ b. b ≡ (declares_op hierarchy.now.decls.now name.now class && list_all (λ d. not (declares_op hierarchy.now.decls.now name.now d) || is_among (ancestors (parent_numbers hierarchy.now.decls.now) class) d) classes.now)) }
+    ensures { IfOk result (λ b. b ≡ overrides_all hierarchy.now.decls.now classes.now name.now class) }
 {
     if !declares_op(hierarchy, name, class) {
         return Ok(false);
