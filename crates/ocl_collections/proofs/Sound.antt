@@ -319,7 +319,8 @@ pub well_op : (op : CollOp) (source : Value) (args : List Value) → IsWellMade 
 well_op op source args well given =
     cond_both (some_invalid args) Invalid (with_collection source (of_collection op args)) IsWellMade
     (λ _. well_Invalid)
-    (λ _. well_with_collection source (of_collection op args) well (λ kind all each. well_of_collection op args kind all (recursion_from_All IsWellMade args given) each))
+    (λ _. well_with_collection source (of_collection op args) well
+        (λ kind all each. well_of_collection op args kind all (recursion_from_All IsWellMade args given) each))
 
 -- the same where a match found the elements
 pub well_given : (op : CollOp) (args : List Value) (kind : Kind) (all : List Value) → IsWellMade (Coll kind all) → All IsWellMade args

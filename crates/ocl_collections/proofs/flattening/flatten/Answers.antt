@@ -10,11 +10,13 @@ returns-clause-value c =
     c.collection.ensures
     ∙ made_flattened c.args.kind c.args.items.items _ (recursion_from_All IsWellMade c.args.items.items c.requires)
     (ap (λ l. some_invalid l || nat_le 256 (most_levels l)) (sym c.as_slice.ensures.value) ∙ sym c.are_unfit.ensures ∙ c.if-are_unfit.false)
-    (c.in_ok-canonical.ensures ∙ ap (canonical c.args.kind) (c.in_ok-move_all_leaves.ensures ∙ ap (λ l. l ++ all_leaves c.args.items.items) c.new-leaves.ensures.items))
+    (c.in_ok-canonical.ensures
+        ∙ ap (canonical c.args.kind) (c.in_ok-move_all_leaves.ensures ∙ ap (λ l. l ++ all_leaves c.args.items.items) c.new-leaves.ensures.items))
 
 pub returns-clause-well_made : goal.returns-clause-well_made
 returns-clause-well_made c =
     subst IsWellMade (sym c.collection.ensures)
     (made_flattened_well c.args.kind c.args.items.items _ (recursion_from_All IsWellMade c.args.items.items c.requires)
     (ap (λ l. some_invalid l || nat_le 256 (most_levels l)) (sym c.as_slice.ensures.value) ∙ sym c.are_unfit.ensures ∙ c.if-are_unfit.false)
-    (c.in_ok-canonical.ensures ∙ ap (canonical c.args.kind) (c.in_ok-move_all_leaves.ensures ∙ ap (λ l. l ++ all_leaves c.args.items.items) c.new-leaves.ensures.items)))
+    (c.in_ok-canonical.ensures
+        ∙ ap (canonical c.args.kind) (c.in_ok-move_all_leaves.ensures ∙ ap (λ l. l ++ all_leaves c.args.items.items) c.new-leaves.ensures.items)))
