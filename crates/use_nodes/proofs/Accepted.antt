@@ -114,16 +114,16 @@ accepted_met : (g : Table) (ks : List ℕ) (more : List Need) (n p level at to :
 accepted_met g ks [] n p level at to trees is of e = refl
 accepted_met g ks (need ∷ more) n p level at to trees is of e =
     let enough : is_enough need (sure_at (sort_of need) g 6 p) ≡ true =
-        subst (λ (o : Option ℕ). is_enough need (sure_rule (sort_of need) g o) ≡ true) is
-            (both_left (is_enough need (sure_rule (sort_of need) g (slice_get g.rules n))) (accepts g more n) e) in
+    subst (λ (o : Option ℕ). is_enough need (sure_rule (sort_of need) g o) ≡ true) is
+    (both_left (is_enough need (sure_rule (sort_of need) g (slice_get g.rules n))) (accepts g more n) e) in
     let holds = sure_sound (sort_of need) g (sort_of_token need) (sort_of_rule need) ks 6 p level at (Outcome.ends to trees) of in
     both_of (is_met need trees) (are_met more trees) (enough_met need (sure_at (sort_of need) g 6 p) trees holds enough)
-        (accepted_met g ks more n p level at to trees is of
-            (both_right (is_enough need (sure_rule (sort_of need) g (slice_get g.rules n))) (accepts g more n) e))
+    (accepted_met g ks more n p level at to trees is of
+    (both_right (is_enough need (sure_rule (sort_of need) g (slice_get g.rules n))) (accepts g more n) e))
 
 -- what the production of a rule gives has the parts that the rule requires
 pub rule_met : (ks : List ℕ) (rule : Rule) (p level at to : ℕ) (trees : List ParseTree)
     → slice_get language.rules (number_of_rule rule) ≡ Some p → Gives language ks p level at (Outcome.ends to trees) → are_met (needs rule) trees ≡ true
 rule_met ks rule p level at to trees is of =
     accepted_met language ks (needs rule) (number_of_rule rule) p level at to trees is of
-        (accepted_at language all_rules all_accepted (number_of_rule rule) rule (rule_there rule))
+    (accepted_at language all_rules all_accepted (number_of_rule rule) rule (rule_there rule))

@@ -91,7 +91,7 @@ module _ (g : Table) where
       good_at i (known_at Spots (HasSpots (λ t. is_one_of sorts t)) (spot_way (λ t. is_one_of sorts t) (one_of_label sorts)) g deep p)
   if_there_known (after kind) sorts p =
       follows (known_at Edges (HasEdges (λ t. is_token kind t) (λ t. is_one_of sorts t))
-              (edge_way (λ t. is_token kind t) (λ t. is_one_of sorts t) (token_label kind) (one_of_label sorts)) g deep p)
+      (edge_way (λ t. is_token kind t) (λ t. is_one_of sorts t) (token_label kind) (one_of_label sorts)) g deep p)
   if_there_known (first_of select) sorts p =
       known_at Bool (AllAreGood (sought_good select sorts)) (all_way (sought_good select sorts) (sought_label select sorts)) g deep p
 
@@ -171,7 +171,7 @@ module _ (sorts : List Select) where
   next_good kind [] h = refl
   next_good kind (t ∷ ts) h =
       here (is_token kind t) (both_left (not (is_token kind t) || good ts) (follow_good (λ u. is_token kind u) (λ u. is_one_of sorts u) ts) h)
-          (next_good kind ts (both_right (not (is_token kind t) || good ts) (follow_good (λ u. is_token kind u) (λ u. is_one_of sorts u) ts) h))
+      (next_good kind ts (both_right (not (is_token kind t) || good ts) (follow_good (λ u. is_token kind u) (λ u. is_one_of sorts u) ts) h))
     where
       good : List ParseTree → Bool
       good us = first_good (λ u. is_token kind u) (λ u. is_one_of sorts u) us
@@ -185,7 +185,7 @@ module _ (sorts : List Select) where
   all_sought select [] h = refl
   all_sought select (t ∷ ts) h =
       here (selects select t) (both_left (sought_good select sorts t) (all_good (sought_good select sorts) ts) h)
-          (all_sought select ts (both_right (sought_good select sorts t) (all_good (sought_good select sorts) ts) h))
+      (all_sought select ts (both_right (sought_good select sorts t) (all_good (sought_good select sorts) ts) h))
     where
       here : (b : Bool) → (not b || is_one_of sorts t) ≡ true → are_all sorts (filter (selects select) ts) ≡ true
           → are_all sorts (if b then t ∷ filter (selects select) ts else filter (selects select) ts) ≡ true
@@ -204,8 +204,8 @@ one_of_two : (a b : Select) (ts : List ParseTree) → has_one (either_sort a b) 
     → (is_some (slice_get (filter (selects a) ts) 0) || is_some (slice_get (filter (selects b) ts) 0)) ≡ true
 one_of_two a b ts h =
     ⊎_elim (λ x. or_left (is_some (slice_get (filter (selects a) ts) 0)) (is_some (slice_get (filter (selects b) ts) 0)) (some_sought (selects a) ts x))
-        (λ x. or_right (is_some (slice_get (filter (selects a) ts) 0)) (is_some (slice_get (filter (selects b) ts) 0)) (some_sought (selects b) ts x))
-        (apart ts h)
+    (λ x. or_right (is_some (slice_get (filter (selects a) ts) 0)) (is_some (slice_get (filter (selects b) ts) 0)) (some_sought (selects b) ts x))
+    (apart ts h)
   where
     apart : (us : List ParseTree) → has_one (either_sort a b) us ≡ true → (has_one (selects a) us ≡ true) ⊎ (has_one (selects b) us ≡ true)
     apart [] e = absurd (cc)
@@ -257,7 +257,7 @@ module _ (g : Table) (ks : List ℕ) (p level at to : ℕ) (trees : List ParseTr
       let good : ParseTree → Bool = λ t. is_one_of sorts t in
       let known = is_known Edges (HasEdges sort good) (edge_way sort good (token_label kind) (one_of_label sorts)) g ks deep p level at to trees of in
       next_good sorts kind trees
-          (edge_good sorts kind (known_at Edges (HasEdges sort good) (edge_way sort good (token_label kind) (one_of_label sorts)) g deep p) trees known e)
+      (edge_good sorts kind (known_at Edges (HasEdges sort good) (edge_way sort good (token_label kind) (one_of_label sorts)) g deep p) trees known e)
   if_there_sound (first_of select) sorts e =
       let good : ParseTree → Bool = sought_good select sorts in
       let known = is_known Bool (AllAreGood good) (all_way good (sought_label select sorts)) g ks deep p level at to trees of in
@@ -267,10 +267,10 @@ module _ (g : Table) (ks : List ℕ) (p level at to : ℕ) (trees : List ParseTr
   fact_sound (there place sorts) e =
       let enough = both_left (is_enough (need_at place) (sure_at (sort_of (need_at place)) g deep p)) (if_there_known g place sorts p) e in
       let holds = sure_sound (sort_of (need_at place)) g (sort_of_token (need_at place))
-          (sort_of_rule (need_at place)) ks deep p level at (Outcome.ends to trees) of in
+      (sort_of_rule (need_at place)) ks deep p level at (Outcome.ends to trees) of in
       let met = enough_met (need_at place) (sure_at (sort_of (need_at place)) g deep p) trees holds enough in
       there_if sorts (part_in place trees) (met_there place trees met)
-          (if_there_sound place sorts (both_right (is_enough (need_at place) (sure_at (sort_of (need_at place)) g deep p)) (if_there_known g place sorts p) e))
+      (if_there_sound place sorts (both_right (is_enough (need_at place) (sure_at (sort_of (need_at place)) g deep p)) (if_there_known g place sorts p) e))
   fact_sound (maybe place sorts) e = if_there_sound place sorts e
   fact_sound (each select sorts) e =
       let good : ParseTree → Bool = sought_good select sorts in
@@ -287,14 +287,14 @@ module _ (g : Table) (ks : List ℕ) (p level at to : ℕ) (trees : List ParseTr
       let said = fact_sound fact (both_left (is_known_so g fact p) (are_known_so g more p) e) in
       let below = subst (λ (ts : List ParseTree). so_in fact ts ≡ true) (sym (trees_back trees)) said in
       and_of (is_so fact (node n (row_of trees))) (are_so more (node n (row_of trees)))
-          (so_of_node fact n (row_of trees) below) (facts_sound more n (both_right (is_known_so g fact p) (are_known_so g more p) e))
+      (so_of_node fact n (row_of trees) below) (facts_sound more n (both_right (is_known_so g fact p) (are_known_so g more p) e))
 
 known_of : (g : Table) (rules : List Rule) → all_known g rules ≡ true → (i : ℕ) (rule : Rule)
     → slice_get rules i ≡ Some rule → rule_known g rule (slice_get g.rules (number_of_rule rule)) ≡ true
 known_of g [] e i rule at = absurd (cc)
 known_of g (x ∷ xs) e zero rule at = let same : x ≡ rule = cc in
     subst (λ (y : Rule). rule_known g y (slice_get g.rules (number_of_rule y)) ≡ true) same
-        (both_left (rule_known g x (slice_get g.rules (number_of_rule x))) (all_known g xs) e)
+    (both_left (rule_known g x (slice_get g.rules (number_of_rule x))) (all_known g xs) e)
 known_of g (x ∷ xs) e (suc i) rule at = known_of g xs (both_right (rule_known g x (slice_get g.rules (number_of_rule x))) (all_known g xs) e) i rule at
 
 facts_of_rule : (ks : List ℕ) (n p level at to : ℕ) (trees : List ParseTree) → slice_get language.rules n ≡ Some p
@@ -304,7 +304,7 @@ facts_of_rule ks n p level at to trees e of rule is =
     let same : n ≡ number_of_rule rule = grind (arith, nat_tests) in
     let there : slice_get language.rules (number_of_rule rule) ≡ Some p = subst (λ (m : ℕ). slice_get language.rules m ≡ Some p) same e in
     let known = subst (λ (o : Option ℕ). rule_known language rule o ≡ true) there
-        (known_of language all_rules all_are_known (number_of_rule rule) rule (rule_there rule)) in
+    (known_of language all_rules all_are_known (number_of_rule rule) rule (rule_there rule)) in
     facts_sound language ks p level at to trees of (facts rule) n known
 
 -- what a rule's production gives, below a node of the rule, is as the facts say

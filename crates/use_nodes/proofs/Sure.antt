@@ -110,9 +110,9 @@ module _ (sort : ParseTree → Bool) where
   followed_left [] us e = absurd (cc)
   followed_left (t ∷ ts) us e =
       or_map (both (sort t) (is_filled ts)) (has_followed ts)
-          (λ h. or_left (both (sort t) (is_filled (ts ++ us))) (has_followed (ts ++ us))
-              (both_of (sort t) (is_filled (ts ++ us)) (both_left (sort t) (is_filled ts) h) (filled_left ts us (both_right (sort t) (is_filled ts) h))))
-          (λ h. or_right (both (sort t) (is_filled (ts ++ us))) (has_followed (ts ++ us)) (followed_left ts us h)) e
+      (λ h. or_left (both (sort t) (is_filled (ts ++ us))) (has_followed (ts ++ us))
+      (both_of (sort t) (is_filled (ts ++ us)) (both_left (sort t) (is_filled ts) h) (filled_left ts us (both_right (sort t) (is_filled ts) h))))
+      (λ h. or_right (both (sort t) (is_filled (ts ++ us))) (has_followed (ts ++ us)) (followed_left ts us h)) e
 
   followed_right : (ts us : List ParseTree) → has_followed us ≡ true → has_followed (ts ++ us) ≡ true
   followed_right [] us e = e
@@ -122,8 +122,8 @@ module _ (sort : ParseTree → Bool) where
   followed_across [] us e n = absurd (cc)
   followed_across (t ∷ ts) us e n =
       or_map (sort t) (has_one ts)
-          (λ h. or_left (both (sort t) (is_filled (ts ++ us))) (has_followed (ts ++ us)) (both_of (sort t) (is_filled (ts ++ us)) h (filled_right ts us n)))
-          (λ h. or_right (both (sort t) (is_filled (ts ++ us))) (has_followed (ts ++ us)) (followed_across ts us h n)) e
+      (λ h. or_left (both (sort t) (is_filled (ts ++ us))) (has_followed (ts ++ us)) (both_of (sort t) (is_filled (ts ++ us)) h (filled_right ts us n)))
+      (λ h. or_right (both (sort t) (is_filled (ts ++ us))) (has_followed (ts ++ us)) (followed_across ts us h n)) e
 
   -- it holds of a row
   pub record Holds (l : ℕ) (h f : Bool) (ts : List ParseTree) : Type 0 where
@@ -182,7 +182,7 @@ module _ (sort : ParseTree → Bool) where
   branch_holds one [] q i ts h = absurd i
   branch_holds one (x ∷ xs) q i ts h =
       ⊎_elim (λ same. left_holds (one x) (any_of one xs) ts (subst (λ (n : ℕ). HoldsOf (one n) ts) same h))
-          (λ later. right_holds (one x) (any_of one xs) ts (branch_holds one xs q later ts h)) i
+      (λ later. right_holds (one x) (any_of one xs) ts (branch_holds one xs q later ts h)) i
 
   chosen_holds : (one : ℕ → Sure) (qs : List ℕ) (q : ℕ) → IsIn q qs → (a : Outcome) → HoldsOfAll (one q) a → HoldsOfAll (any_of one qs) a
   chosen_holds one qs q i (Outcome.ends to trees) h = branch_holds one qs q i trees h
@@ -212,7 +212,7 @@ module _ (sort : ParseTree → Bool) where
     sure_at (suc n) p = sure_prod (λ q. sure_at n q) (slice_get g.prods p)
 
     module _ (of_token : (k at : ℕ) → sort (leaf k 0) ≡ sort (leaf k at)) (of_rule : (r : ℕ) (row : Row)
-            → sort (node r Row.none) ≡ sort (node r row)) (ks : List ℕ) where
+        → sort (node r Row.none) ≡ sort (node r row)) (ks : List ℕ) where
       below_holds : (r : ℕ) (a : Outcome) → HoldsOfAll (sure_of (node r Row.none)) (below_rule r a)
       below_holds r (Outcome.ends to trees) = alone_holds (node r Row.none) (node r (row_of trees)) (of_rule r (row_of trees))
       below_holds r (Outcome.stuck at) = tt

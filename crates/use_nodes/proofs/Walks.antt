@@ -22,7 +22,7 @@ abbrev pub ReadHas : (ParseTree → Type 0) → Reading → Type 0
 ReadHas P given = (ts : List Token) (tree : ParseTree) → given ≡ parsed ts tree → EachNode P (onto tree Row.none)
 
 module _ (P : ParseTree → Type 0) (of_node : (ks : List ℕ) (n p level at to : ℕ) (trees : List ParseTree)
-        → slice_get language.rules n ≡ Some p → Gives language ks p level at (Outcome.ends to trees) → P (node n (row_of trees))) where
+    → slice_get language.rules n ≡ Some p → Gives language ks p level at (Outcome.ends to trees) → P (node n (row_of trees))) where
   each_append : (ts us : List ParseTree) → EachNode P (row_of ts) → EachNode P (row_of us) → EachNode P (row_of (ts ++ us))
   each_append [] us h k = k
   each_append (leaf n at ∷ ts) us h k = each_append ts us h k

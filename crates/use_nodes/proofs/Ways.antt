@@ -271,10 +271,10 @@ module _ (sort good : ParseTree → Bool) where
   follow_append [] us h k c = k
   follow_append (t ∷ []) us h k c =
       both_of (not (sort t) || first_good us) (follow_good us)
-          (⊎_elim (λ e. or_left (not (sort t)) (first_good us) e) (λ e. or_right (not (sort t)) (first_good us) e) c) k
+      (⊎_elim (λ e. or_left (not (sort t)) (first_good us) e) (λ e. or_right (not (sort t)) (first_good us) e) c) k
   follow_append (t ∷ v ∷ ts) us h k c =
       both_of (not (sort t) || good v) (follow_good ((v ∷ ts) ++ us)) (both_left (not (sort t) || good v) (follow_good (v ∷ ts)) h)
-          (follow_append (v ∷ ts) us (both_right (not (sort t) || good v) (follow_good (v ∷ ts)) h) k c)
+      (follow_append (v ∷ ts) us (both_right (not (sort t) || good v) (follow_good (v ∷ ts)) h) k c)
 
   pub turn_edges : (a b : Edges) (ts us : List ParseTree) → HasEdges a ts → HasEdges b us → HasEdges (edges_in_turn a b) (ts ++ us)
   turn_edges (edges n f l p) (edges n' f' l' p') ts us h k = record {
@@ -290,13 +290,21 @@ module _ (sort good : ParseTree → Bool) where
 
   pub left_edges : (a b : Edges) (ts : List ParseTree) → HasEdges a ts → HasEdges (edges_either a b) ts
   left_edges (edges n f l p) (edges n' f' l' p') ts h =
-      record { filled = λ e. h.filled (both_left n n' e); first = λ e. h.first (both_left f f' e);
-          last = λ e. h.last (both_left l l' e); follows = λ e. h.follows (both_left p p' e) }
+      record {
+        filled = λ e. h.filled (both_left n n' e);
+        first = λ e. h.first (both_left f f' e);
+        last = λ e. h.last (both_left l l' e);
+        follows = λ e. h.follows (both_left p p' e);
+      }
 
   pub right_edges : (a b : Edges) (ts : List ParseTree) → HasEdges b ts → HasEdges (edges_either a b) ts
   right_edges (edges n f l p) (edges n' f' l' p') ts h =
-      record { filled = λ e. h.filled (both_right n n' e); first = λ e. h.first (both_right f f' e);
-          last = λ e. h.last (both_right l l' e); follows = λ e. h.follows (both_right p p' e) }
+      record {
+        filled = λ e. h.filled (both_right n n' e);
+        first = λ e. h.first (both_right f f' e);
+        last = λ e. h.last (both_right l l' e);
+        follows = λ e. h.follows (both_right p p' e);
+      }
 
   pub never_edges : (a : Edges) → HasEdges (edges_often a) []
   never_edges (edges n f l p) = record { filled = λ e. absurd (cc); first = λ e. refl; last = λ e. refl; follows = λ e. refl }
@@ -315,8 +323,12 @@ module _ (sort good : ParseTree → Bool) where
 
   pub one_edge : (s t : ParseTree) → sort s ≡ sort t → good s ≡ good t → HasEdges (edges true (good s) (not (sort s)) true) (t ∷ [])
   one_edge s t e g =
-      record { filled = λ x. refl; first = λ x. sym g ∙ x; last = λ x. ap not (sym e) ∙ x;
-          follows = λ x. both_of (not (sort t) || true) true (or_right (not (sort t)) true refl) refl }
+      record {
+        filled = λ x. refl;
+        first = λ x. sym g ∙ x;
+        last = λ x. ap not (sym e) ∙ x;
+        follows = λ x. both_of (not (sort t) || true) true (or_right (not (sort t)) true refl) refl;
+      }
 
   abbrev pub edge_way : IsOfLabel sort → IsOfLabel good → Way Edges HasEdges
   edge_way of_sort of_good = record {

@@ -30,7 +30,7 @@ module _ (ks : List ℕ) where
       let same : n ≡ number_of_rule rule = grind (arith, nat_tests) in
       let there : slice_get language.rules (number_of_rule rule) ≡ Some p = subst (λ (m : ℕ). slice_get language.rules m ≡ Some p) same e in
       let met : are_met (needs rule) (trees_of (row_of trees)) ≡ true =
-          subst (λ (ts : List ParseTree). are_met (needs rule) ts ≡ true) (sym (trees_back trees)) (rule_met ks rule p level at to trees there of) in
+      subst (λ (ts : List ParseTree). are_met (needs rule) ts ≡ true) (sym (trees_back trees)) (rule_met ks rule p level at to trees there of) in
       subst (λ (m : ℕ). has_parts rule (node m (row_of trees)) ≡ true) (sym same) (met_has_parts rule (row_of trees) met)
 
   pub node_has_parts : (n p level at to : ℕ) (trees : List ParseTree) → slice_get language.rules n ≡ Some p

@@ -11,5 +11,5 @@ pub returns-in-Coll : goal.returns-in-Coll
 returns-in-Coll c =
     subst (λ w. IfOk c.of_pair.result (λ v. v ≡ w))
     (found c.args.argument.now c.in-Coll.other c.in-Coll.others c.as_slice.result.now
-        (of_pair c.args.op c.args.kind c.args.items.now) c.in-Coll.is c.as_slice.ensures)
+    (of_pair c.args.op c.args.kind c.args.items.now) c.in-Coll.is c.as_slice.ensures)
     c.of_pair.ensures

@@ -7,4 +7,4 @@ pub returns : goal.returns
 returns c =
     ap Str
     (c.from_string.ensures ∙ c.in_ok-push_str.ensures.bytes ∙ ap (λ x. x ++ c.args.t.now) c.in_ok-text.ensures.ok
-        ∙ sym (encodes_both c.args.s.now c.args.t.now c.utf8.s c.utf8.t))
+    ∙ sym (encodes_both c.args.s.now c.args.t.now c.utf8.s c.utf8.t))

@@ -8,4 +8,4 @@ pub returns : goal.returns
 returns c =
     ap Str
     (c.from_string.ensures ∙ c.make_ascii_uppercase.ensures.bytes ∙ ap (map to_ascii_uppercase) c.in_ok-text.ensures.ok
-        ∙ sym (uppercase_chars c.args.s.now c.utf8.s))
+    ∙ sym (uppercase_chars c.args.s.now c.utf8.s))
