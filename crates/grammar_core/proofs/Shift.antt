@@ -9,8 +9,8 @@ use Rattle.grammar_core.specs.declared.machine.Task.TheVariants.{Read, Close}
 use Rattle.grammar_core.specs.Tables.{rule_at}
 use Rattle.grammar_core.specs.Trees.{ParseTree}
 use Rattle.grammar_core.specs.Derives.{next_is, begins, branch_of, max_level}
-use Rattle.grammar_core.specs.Answers.{Answer, Reading, then_at, in_turn, chosen, again, close, of_rule, of_production, answer, most_open, whole, outcome_of, steps_of}
-use Rattle.grammar_core.specs.Tasks.{task, tasks_from, tasks}
+use Rattle.grammar_core.specs.Answers.{Answer, Reading, then_at, in_turn, chosen, again, close, of_rule, of_production, answer, most_open, whole, outcome_of}
+use Rattle.grammar_core.specs.Tasks.{task, tasks_from, tasks, steps_of}
 
 -- one step later
 abbrev pub later : Answer → Answer

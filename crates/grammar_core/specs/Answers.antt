@@ -41,7 +41,8 @@ chosen one (Some q) at done n = one q at done n
 -- as often as the next token is of one of these kinds, and less than k times
 abbrev pub again : List ℕ → List ℕ → Reading → ℕ → Reading
 again ks firsts one zero at done n = spent n
-again ks firsts one (suc k) at done n = if begins ks at firsts then then_at (one at done n) (λ to more m. again ks firsts one k to more (suc m)) else ends at done n
+again ks firsts one (suc k) at done n =
+    if begins ks at firsts then then_at (one at done n) (λ to more m. again ks firsts one k to more (suc m)) else ends at done n
 
 -- the trees from a place on below a rule
 abbrev pub close : ℕ → List ParseTree → Answer → Answer
@@ -52,7 +53,9 @@ close r before (spent n) = spent n
 
 abbrev pub of_rule : (ℕ → ℕ → Reading) → ℕ → ℕ → Option Rule → Reading
 of_rule one r level None at done n = spent n
-of_rule one r level (Some rule) at done n = if rule.nests then (if nat_lt level max_level then close r done (one rule.to (level + 1) at done n) else deep at n) else close r done (one rule.to level at done n)
+of_rule one r level (Some rule) at done n =
+    if rule.nests then (if nat_lt level max_level then close r done (one rule.to (level + 1) at done n) else deep at n)
+    else close r done (one rule.to level at done n)
 
 -- One production, where `one` says what a production answers at a level.
 abbrev pub of_production : Table → List ℕ → (ℕ → ℕ → Reading) → ℕ → Option Prod → Reading
@@ -82,12 +85,6 @@ outcome_of (ends to done n) = Some (Outcome.ends to done)
 outcome_of (stuck at n) = Some (Outcome.stuck at)
 outcome_of (deep at n) = Some (Outcome.deep at)
 outcome_of (spent n) = None
-
-abbrev pub steps_of : Answer → ℕ
-steps_of (ends to done n) = n
-steps_of (stuck at n) = n
-steps_of (deep at n) = n
-steps_of (spent n) = n
 
 -- what the parser gave for this answer, with its trees; want of memory may always come
 abbrev pub Meets : Result ℕ ParseFault → List ParseTree → Answer → Type 0

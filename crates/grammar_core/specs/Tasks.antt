@@ -1,13 +1,26 @@
--- What is still to be done: a stack of tasks, the next one last.
-use Rattle.std.specs.Prelude.{◌≡◌, ℕ, ◌<◌, List, [], ◌∷◌, ◌++◌, length, map, suc, Option, option_to_list, Result, Ok, Err}
+-- What is still to be done: a stack of tasks, the next one last. Only proofs use these words.
+use Rattle.std.specs.Prelude.{◌≡◌, ℕ, ◌<◌, List, [], ◌∷◌, ◌++◌, length, map, suc, Option, Some, option_to_list, Result, Ok, Err}
 use Rattle.grammar_core.specs.declared.table.Table.{Table}
 use Rattle.grammar_core.specs.declared.fault.ParseFault.{ParseFault}
 use Rattle.grammar_core.specs.declared.machine.Done.{Done}
+use Rattle.grammar_core.specs.declared.table.Prod.{Prod}
+use Rattle.grammar_core.specs.declared.machine.Position.{Position}
 use Rattle.grammar_core.specs.declared.machine.Task.{Task}
 use Rattle.grammar_core.specs.declared.machine.Task.TheVariants.{Read, Close}
+use Rattle.grammar_core.specs.declared.machine.Work.{Work}
 use Rattle.grammar_core.specs.Trees.{ParseTree}
-use Rattle.grammar_core.specs.Arena.{closed}
-use Rattle.grammar_core.specs.Answers.{Answer, Reading, then_at, whole, Meets}
+use Rattle.grammar_core.specs.Arena.{closed, read_trees}
+use Rattle.grammar_core.specs.Answers.{Answer, ends, stuck, deep, spent, Reading, then_at, of_production, whole, Meets}
+
+abbrev pub steps_of : Answer → ℕ
+steps_of (ends to done n) = n
+steps_of (stuck at n) = n
+steps_of (deep at n) = n
+steps_of (spent n) = n
+
+-- what a production answers at a position, which counts one step
+abbrev pub answer_at : Table → List ℕ → Prod → Position → List ParseTree → Answer
+answer_at g ks x here done = of_production g ks (whole g ks) here.level (Some x) here.at done 1
 
 abbrev pub task : Table → List ℕ → Task → Reading
 task g ks (Read p level) at done n = whole g ks p level at done n
@@ -36,7 +49,8 @@ abbrev pub left : List Task → Option Task → List Task
 left stack next = stack ++ option_to_list next
 
 -- one step was done, which counts one, of a task that answers this
-abbrev pub Stepped : Table → List ℕ → Result Done ParseFault → List Task → List Task → List ParseTree → Answer → Type 0
-Stepped g ks (Ok done) old new trees a = (tasks g ks (left new done.next) done.at trees 1 ≡ then_at a (λ at so_far n. tasks g ks old at so_far n))
-    × AreTasks g (left new done.next)
-Stepped g ks (Err e) old new trees a = Meets (Err e) trees a
+abbrev pub Stepped : Table → List ℕ → Result Done ParseFault → Work → Work → Answer → Type 0
+Stepped g ks (Ok done) old new a =
+    (tasks g ks (left new.stack.items done.next) done.at (read_trees new.built) 1 ≡ then_at a (λ at so_far n. tasks g ks old.stack.items at so_far n))
+    × AreTasks g (left new.stack.items done.next)
+Stepped g ks (Err e) old new a = Meets (Err e) (read_trees new.built) a

@@ -87,7 +87,8 @@ impl Builder {
     /// The tree that was read last, as a tree of its own. The others are forgotten.
     pub(crate) fn take_tree(&mut self, alloc: Global) -> Result<Tree, ParseFault>
         requires { 0 < length (read_trees self.old) }
-        ensures { MatchResult result (λ t. slice_get (read_trees self.old) (length (read_trees self.old) - 1) ≡ Some (root_tree t)) (λ e. e ≡ ParseFault.Memory) }
+        ensures { MatchResult result (λ t. slice_get (read_trees self.old) (length (read_trees self.old) - 1) ≡ Some (root_tree t))
+            (λ e. e ≡ ParseFault.Memory) }
     {
         match self.waiting.pop() {
             Some(root) => {

@@ -40,7 +40,8 @@ fn set_cell(cells: &mut Vec<Option<u16>>, kind: u16, to: u16)
 /// Puts a production into the cells of some kinds.
 fn set_all(cells: &mut Vec<Option<u16>>, firsts: &[u16], to: u16)
     ensures long { length cells.new.items ≡ length cells.old.items }
-    ensures set { (k : ℕ) → k < length cells.old.items → slice_get cells.new.items k ≡ (if begins (k ∷ []) 0 firsts.now then Some (Some to) else slice_get cells.old.items k) }
+    ensures set { (k : ℕ) → k < length cells.old.items → slice_get cells.new.items k
+        ≡ (if begins (k ∷ []) 0 firsts.now then Some (Some to) else slice_get cells.old.items k) }
 {
     'kinds: for kind in firsts {
         set_cell(cells, *kind, to);
@@ -100,7 +101,8 @@ pub(crate) fn all_cells(alloc: Global, prods: &[Prod]) -> Result<Vec<Cells>, All
 
 /// What a choice leads to at a place, where a cell tells it.
 pub(crate) fn told_choice(all: &[Cells], tokens: &[Token], at: u32, p: u16) -> Option<Option<u16>>
-    ensures { IfSome result (λ told. (prods : List Prod) (x : Prod) → AreByKind prods all.now → slice_get prods p ≡ Some x → told ≡ choice (kinds tokens.now) at x) }
+    ensures { IfSome result (λ told. (prods : List Prod) (x : Prod) → AreByKind prods all.now → slice_get prods p ≡ Some x
+        → told ≡ choice (kinds tokens.now) at x) }
 {
     match (tokens.get(at as usize), all.get(p as usize)) {
         (Some(token), Some(cells)) => cells.get(token.kind as usize).copied(),

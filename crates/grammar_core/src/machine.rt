@@ -2,7 +2,7 @@ ghost use Rattle.std.specs.Prelude.{◌≡◌, ◌+◌, ◌-◌, ◌<◌, ◌^�
 ghost use Rattle.grammar_core.specs.Answers.{Meets, of_production, whole};
 ghost use Rattle.grammar_core.specs.Arena.{read_trees};
 ghost use Rattle.grammar_core.specs.Derives.{kinds};
-ghost use Rattle.grammar_core.specs.Tasks.{AreTasks, IsTask, Stepped, reads, task};
+ghost use Rattle.grammar_core.specs.Tasks.{AreTasks, IsTask, Stepped, answer_at, reads, task};
 ghost use Rattle.grammar_core.specs.Unfit.{IsFit};
 ghost use Rattle.grammar_core.specs.declared.table.Prod.TheVariants.{Call};
 
@@ -18,6 +18,14 @@ pub(crate) enum Task {
     Read(u16, u32),
     /// Put the trees from a place on below a rule.
     Close(u16, u64),
+}
+
+/// Where a production is read: its number, the level of nesting, and the place of the next token.
+#[derive(Clone, Copy)]
+pub(crate) struct Position {
+    pub(crate) prod: u16,
+    pub(crate) level: u32,
+    pub(crate) at: u32,
 }
 
 /// What a parse works on: the tasks that are left, the next one last, and the trees so far.
@@ -57,7 +65,8 @@ fn put_all(stack: &mut Vec<Task>, level: u32, ps: &[u16]) -> Result<(), ParseFau
 
 /// Leaves the reading of each production in turn. The first one comes next.
 fn put_seq(stack: &mut Vec<Task>, level: u32, ps: &[u16]) -> Result<Option<Task>, ParseFault>
-    ensures { MatchResult result (λ next. stack.new.items ++ option_to_list next ≡ stack.old.items ++ reverse (reads level ps.now)) (λ e. e ≡ ParseFault.Memory) }
+    ensures { MatchResult result (λ next. stack.new.items ++ option_to_list next ≡ stack.old.items ++ reverse (reads level ps.now))
+        (λ e. e ≡ ParseFault.Memory) }
 {
     match ps {
         [] => Ok(None),
@@ -70,7 +79,8 @@ fn put_seq(stack: &mut Vec<Task>, level: u32, ps: &[u16]) -> Result<Option<Task>
 
 /// The task that comes next: this one, or the last one that is left.
 fn take_next(stack: &mut Vec<Task>, next: Option<Task>) -> Option<Task>
-    ensures task { MatchOption result (stack.old.items ++ option_to_list next ≡ []) (λ task. stack.old.items ++ option_to_list next ≡ stack.new.items ++ task ∷ []) }
+    ensures task { MatchOption result (stack.old.items ++ option_to_list next ≡ [])
+        (λ task. stack.old.items ++ option_to_list next ≡ stack.new.items ++ task ∷ []) }
     ensures none { MatchOption result (stack.new.items ≡ []) (λ task. ⊤) }
 {
     match next {
@@ -84,17 +94,16 @@ fn step_production(
     g: &Grammar,
     tokens: &[Token],
     x: &Prod,
-    p: u16,
-    level: u32,
-    at: u32,
+    here: Position,
     work: &mut Work,
 ) -> Result<Done, ParseFault>
     requires fit { IsFit g.now }
-    requires is { slice_get g.now.prods p ≡ Some x.now }
+    requires is { slice_get g.now.prods here.prod ≡ Some x.now }
     requires all { AreTasks g.now work.old.stack.items }
     requires few { length tokens.now < 2 ^ 32 }
-    ensures { Stepped g.now (kinds tokens.now) result work.old.stack.items work.new.stack.items (read_trees work.new.built) (of_production g.now (kinds tokens.now) (whole g.now (kinds tokens.now)) level (Some x.now) at (read_trees work.old.built) 1) }
+    ensures { Stepped g.now (kinds tokens.now) result work.old work.new (answer_at g.now (kinds tokens.now) x.now here (read_trees work.old.built)) }
 {
+    let Position { prod, level, at } = here;
     match x {
         Prod::Tok(kind) => {
             if next_is(tokens, at, *kind) {
@@ -125,7 +134,7 @@ fn step_production(
             Ok(Done { at, next })
         }
         Prod::Case(branches, other) => {
-            match g.branch_at(tokens, at, p, branches.as_slice(), *other) {
+            match g.branch_at(tokens, at, prod, branches.as_slice(), *other) {
                 Some(q) => Ok(Done {
                     at,
                     next: Some(Task::Read(q, level)),
@@ -134,8 +143,8 @@ fn step_production(
             }
         }
         Prod::Star(firsts, q) => {
-            if g.goes_on(tokens, at, p, firsts.as_slice(), *q) {
-                put(&mut work.stack, Task::Read(p, level))?;
+            if g.goes_on(tokens, at, prod, firsts.as_slice(), *q) {
+                put(&mut work.stack, Task::Read(prod, level))?;
                 Ok(Done {
                     at,
                     next: Some(Task::Read(*q, level)),
@@ -158,10 +167,13 @@ fn step(
     requires inside { IsTask g.now next }
     requires all { AreTasks g.now work.old.stack.items }
     requires few { length tokens.now < 2 ^ 32 }
-    ensures { Stepped g.now (kinds tokens.now) result work.old.stack.items work.new.stack.items (read_trees work.new.built) (task g.now (kinds tokens.now) next at (read_trees work.old.built) 0) }
+    ensures { Stepped g.now (kinds tokens.now) result work.old work.new (task g.now (kinds tokens.now) next at (read_trees work.old.built) 0) }
 {
     match next {
-        Task::Read(p, level) => { step_production(g, tokens, g.prod(p), p, level, at, work) }
+        Task::Read(prod, level) => {
+            let here = Position { prod, level, at };
+            step_production(g, tokens, g.prod(prod), here, work)
+        }
         Task::Close(rule, start) => {
             work.built.close(rule, start)?;
             Ok(Done { at, next: None })

@@ -79,7 +79,8 @@ impl Tree {
     /// The node right below this one at the place `i`, from the left.
     pub fn child(&self, n: NodeNo, i: u64) -> Option<NodeNo>
         requires { n < length self.now }
-        ensures { MatchOption result (length (below (tree_at self.now n)) ≤ i) (λ m. (m < n) × (slice_get (below (tree_at self.now n)) i ≡ Some (tree_at self.now m))) }
+        ensures { MatchOption result (length (below (tree_at self.now n)) ≤ i)
+            (λ m. (m < n) × (slice_get (below (tree_at self.now n)) i ≡ Some (tree_at self.now m))) }
     {
         match self.node(n) {
             Node::Token(_, _) => None,

@@ -7,7 +7,7 @@ ghost use Rattle.use_text.specs.Refusals.{refusal_at};
 ghost use Rattle.use_text.specs.Tokens.{IsWithin};
 ghost use Rattle.grammar_core.specs.Arena.{root_tree};
 ghost use Rattle.use_syntax.specs.Language.{language};
-ghost use Rattle.use_syntax.specs.Reading.{read_command};
+ghost use Rattle.use_syntax.specs.Reading.{parsed, read_command};
 ghost use Rattle.use_nodes.specs.Nodes.{and_then, place_of_first};
 ghost use Rattle.use_nodes.specs.CommandNodes.{command_node, query_node};
 ghost use Rattle.use_session.specs.Commands.{command_of, command_of_text, command_of_reading, command_of_parts, command_of_form, query_numbers, query_of, unbuilt};
@@ -19,7 +19,7 @@ use grammar_core::Grammar;
 use std::alloc::{AllocError, Global};
 use use_lists::Items;
 use use_nodes::{CommandNode, NodeRef, QueryNode, place_of_first};
-use use_syntax::{Parsed, SyntaxFault, read_command};
+use use_syntax::{Reader, SyntaxFault, TokenTree};
 use use_text::{Code, Cut, Fate, Place, Refusal, Token};
 
 /// What a command asks for.
@@ -73,14 +73,19 @@ fn query_of(place: Place, numbers: Option<Items<i128>>) -> Command
 }
 
 /// Reads a command of the stream.
-pub fn read_cut(alloc: Global, grammar: &Grammar, cut: &Cut) -> Result<Command, AllocError>
+pub fn read_cut(
+    alloc: Global,
+    reader: &mut Reader,
+    grammar: &Grammar,
+    cut: &Cut,
+) -> Result<Command, AllocError>
     requires table { grammar.now ≡ language }
     requires command { IsCommand max_lines cut.now }
     ensures command { IfOk result (λ command. command ≡ command_of cut.now) }
     ensures not_negative { IfOk result AddsUp }
 {
     match cut.fate {
-        Fate::Whole => read_text(alloc, grammar, cut.text.as_slice(), cut.first_line),
+        Fate::Whole => read_text(alloc, reader, grammar, cut.text.as_slice(), cut.first_line),
         Fate::TooLong => Ok(uncut(Code::K1, cut.first_line)),
         Fate::Unfinished => Ok(uncut(Code::K2, cut.first_line)),
     }
@@ -88,6 +93,7 @@ pub fn read_cut(alloc: Global, grammar: &Grammar, cut: &Cut) -> Result<Command, 
 
 fn read_text(
     alloc: Global,
+    reader: &mut Reader,
     grammar: &Grammar,
     text: &[u8],
     line: u32,
@@ -101,12 +107,13 @@ fn read_text(
     if opens_file(text) {
         Ok(unbuilt(first_place(line, text)))
     } else {
-        read_parsed(alloc, grammar, text, line)
+        read_parsed(alloc, reader, grammar, text, line)
     }
 }
 
 fn read_parsed(
     alloc: Global,
+    reader: &mut Reader,
     grammar: &Grammar,
     text: &[u8],
     line: u32,
@@ -117,22 +124,26 @@ fn read_parsed(
     ensures command { IfOk result (λ command. command ≡ command_of_reading line text.now (read_command line text.now)) }
     ensures not_negative { IfOk result AddsUp }
 {
-    match read_command(alloc, grammar, text, line) {
-        Ok(parsed) => read_tree(alloc, &parsed, line),
+    match reader.read_command(grammar, text, line) {
+        Ok(read) => {
+            let command = read_tree(alloc, text, &read, line)?;
+            reader.take_back(read);
+            Ok(command)
+        }
         Err(SyntaxFault::Refused(refusal)) => Ok(Command::Refused(refusal)),
         Err(SyntaxFault::Memory) => Err(AllocError),
     }
 }
 
-fn read_tree(alloc: Global, parsed: &Parsed, line: u32) -> Result<Command, AllocError>
-    requires { All (IsWithin (length parsed.now.text)) parsed.now.tokens }
-    ensures command { IfOk result (λ command. command ≡ command_of_parts (place_of_first line parsed.now.tokens) parsed.now.text parsed.now.tokens (command_node (root_tree parsed.now.tree))) }
+fn read_tree(alloc: Global, text: &[u8], read: &TokenTree, line: u32) -> Result<Command, AllocError>
+    requires { All (IsWithin (length text.now)) read.now.tokens }
+    ensures command { IfOk result (λ command. command ≡ command_of_reading line text.now (parsed read.now.tokens (root_tree read.now.tree))) }
     ensures not_negative { IfOk result AddsUp }
 {
-    let tokens = parsed.tokens.as_slice();
+    let tokens = read.tokens.as_slice();
     let place = place_of_first(line, tokens);
-    match CommandNode::of(&NodeRef::root(&parsed.tree)) {
-        Some(command) => read_form(alloc, place, parsed.text.as_slice(), tokens, command.form),
+    match CommandNode::of(&NodeRef::root(&read.tree)) {
+        Some(command) => read_form(alloc, place, text, tokens, command.form),
         None => Ok(unbuilt(place)),
     }
 }

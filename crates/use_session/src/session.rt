@@ -12,6 +12,7 @@ use std::marker::Model;
 use std::sync::ledger::Ledger;
 use thiserror::Error;
 use use_steps::Steps;
+use use_syntax::Reader;
 use use_text::{Code, Cut};
 
 /// How a command ended.
@@ -38,6 +39,7 @@ pub enum SessionFault {
 pub struct Session {
     alloc: Global,
     grammar: Grammar,
+    reader: Reader,
     over: bool,
 }
 
@@ -63,6 +65,7 @@ impl Session {
         Session {
             alloc,
             grammar,
+            reader: Reader::new(alloc),
             over: false,
         }
     }
@@ -89,7 +92,7 @@ impl Session {
         if self.over {
             return Err(SessionFault::Over);
         }
-        match answer(self.alloc, &self.grammar, cut, out) {
+        match answer(self.alloc, &mut self.reader, &self.grammar, cut, out) {
             Ok(turn) => Ok(turn),
             Err(_) => {
                 self.over = true;
@@ -101,6 +104,7 @@ impl Session {
 
 fn answer(
     alloc: Global,
+    reader: &mut Reader,
     grammar: &Grammar,
     cut: &Cut,
     out: &mut Vec<u8>,
@@ -110,6 +114,6 @@ fn answer(
     ensures bytes { OnOk result (out.new.items ≡ out.old.items ++ (step start cut.now).bytes) }
     ensures turn { IfOk result (λ turn. turn ≡ (step start cut.now).turn) }
 {
-    let command = read_cut(alloc, grammar, cut)?;
+    let command = read_cut(alloc, reader, grammar, cut)?;
     carry_out(alloc, &command, out)
 }

@@ -116,7 +116,8 @@ fn play_last<K: Sink, L: Ledger>(
     requires ready { IsReady session.old cutter.old }
     requires count { cutter.old.count + 2 ≤ max_lines }
     ensures ok { OnOk result ((bytes : List ℕ) → StandsFor cutter.old bytes → PlaysLast session.old.machine bytes (K.written sink.old) (K.written sink.new)) }
-    ensures err { OnErr result ((bytes : List ℕ) → StandsFor cutter.old bytes → FrontOfLast session.old.machine bytes (K.written sink.old) (K.written sink.new)) }
+    ensures err { OnErr result ((bytes : List ℕ) → StandsFor cutter.old bytes
+        → FrontOfLast session.old.machine bytes (K.written sink.old) (K.written sink.new)) }
     ensures cause { StopsByWrite (K.faults sink.old) (K.faults sink.new) result }
     ensures steps { steps.new ≡ steps.old }
 {

@@ -7,7 +7,9 @@ ghost use Rattle.use_syntax.specs.Numbers.{number_of_rule};
 use crate::{Rule, SyntaxFault, TokenTree};
 use grammar_core::{Grammar, ParseFault, Parser};
 use std::alloc::Global;
-use use_text::{Code, LexFault, Place, Refusal, Token, Tokens, lex};
+use std::mem;
+use use_lists::Items;
+use use_text::{Code, LexFault, Place, Refusal, Token, Tokens, lex_into};
 
 /// The lists that reading works with, kept from one text to the next. What was read before changes
 /// nothing.
@@ -15,6 +17,8 @@ use use_text::{Code, LexFault, Place, Refusal, Token, Tokens, lex};
 pub struct Reader {
     alloc: Global,
     parser: Parser,
+    /// The room of the next tokens.
+    tokens: Tokens,
 }
 
 /// The place of a token, by its number in the list.
@@ -59,6 +63,7 @@ impl Reader {
         Reader {
             alloc,
             parser: Parser::new(alloc),
+            tokens: Items::new(alloc),
         }
     }
 
@@ -76,7 +81,8 @@ impl Reader {
         ensures reading { ReadsTree (read (number_of_rule start) first_line text.now) result }
         ensures within { IfOk result (λ p. All (IsWithin (length text.now)) p.tokens) }
     {
-        match lex(self.alloc, text, first_line) {
+        let room = mem::replace(&mut self.tokens, Items::new(self.alloc));
+        match lex_into(room, text, first_line) {
             Ok(tokens) => read_tokens(&mut self.parser, g, start, tokens),
             Err(LexFault::Memory) => Err(SyntaxFault::Memory),
             Err(LexFault::Bad(refusal)) => Err(SyntaxFault::Refused(refusal)),
@@ -111,7 +117,8 @@ impl Reader {
 
     /// Takes back the lists of what was read and is needed no more, for the next text.
     pub fn take_back(&mut self, read: TokenTree) {
-        let TokenTree { tree, tokens: _ } = read;
+        let TokenTree { tree, tokens } = read;
         self.parser.take_back(tree);
+        self.tokens = tokens;
     }
 }

@@ -35,7 +35,8 @@ impl Model for Cutter {
 
     ghost view = { λ c. record { count = c.count; kept = c.pending.kept; held = c.pending.held; waiting = c.waiting.items } };
 
-    ghost invariant = { λ c. (c.count ≤ max_lines) × (first_of c.pending.kept.block ≤ c.count + 1) × All (IsCommand c.count) c.waiting.items × (c.pending.held ≤ max_command) };
+    ghost invariant = { λ c. (c.count ≤ max_lines) × (first_of c.pending.kept.block ≤ c.count + 1)
+        × All (IsCommand c.count) c.waiting.items × (c.pending.held ≤ max_command) };
 }
 
 impl Cutter {

@@ -1,4 +1,5 @@
-ghost use Rattle.std.specs.Prelude.{◌≡◌, ◌^◌, ◌-◌, ◌+◌, ◌<◌, ◌≤◌, false, min, length, drop, take_while};
+ghost use Rattle.std.specs.Prelude.{◌≡◌, ◌^◌, ◌-◌, ◌+◌, ◌<◌, ◌≤◌, ◌∷◌, List, ℕ, false, min, length, drop, take_while};
+ghost use Rattle.use_text.specs.declared.words.TheConstants.{SYMBOLS};
 ghost use Rattle.use_text.specs.Pieces.{is_white, white_length, is_letter, is_digit, is_name_byte, is_in_line, digits_value, same_text, begins, kind_among, word_kind, word_piece, number_of_digits, number_piece, string_end, string_piece, comment_end, comment_piece, at_piece, symbol_among, symbol_piece, mark_piece, piece_of};
 
 use crate::words::{SYMBOLS, WORDS};
@@ -238,11 +239,42 @@ fn symbol_among(rows: &[(&str, TokenKind)], bytes: &[u8]) -> Piece
     Piece::Bad { code: Code::L2 }
 }
 
+/// The symbols from one on before which none begins with this byte.
+fn symbols_from(b: u8) -> &'static [(&'static str, TokenKind)]
+    ensures { (rest : List ℕ) → symbol_among result.now (λ t. t.now) (b ∷ rest) ≡ symbol_among SYMBOLS (λ t. t.now) (b ∷ rest) }
+{
+    match b {
+        b')' => &SYMBOLS[1..],
+        b'{' => &SYMBOLS[2..],
+        b'}' => &SYMBOLS[3..],
+        b'[' => &SYMBOLS[4..],
+        b']' => &SYMBOLS[5..],
+        b',' => &SYMBOLS[6..],
+        b';' => &SYMBOLS[7..],
+        b':' => &SYMBOLS[8..],
+        b'.' => &SYMBOLS[11..],
+        b'-' => &SYMBOLS[13..],
+        b'<' => &SYMBOLS[15..],
+        b'>' => &SYMBOLS[18..],
+        b'=' => &SYMBOLS[20..],
+        b'+' => &SYMBOLS[21..],
+        b'*' => &SYMBOLS[22..],
+        b'|' => &SYMBOLS[23..],
+        b'#' => &SYMBOLS[24..],
+        b'!' => &SYMBOLS[25..],
+        b'?' => &SYMBOLS[26..],
+        _ => &SYMBOLS,
+    }
+}
+
 #[tactic(auto, unfolding(crate::specs::Pieces::symbol_piece))]
 fn symbol_piece(bytes: &[u8]) -> Piece
     ensures { result ≡ symbol_piece bytes.now }
 {
-    symbol_among(&SYMBOLS, bytes)
+    match bytes {
+        [] => Piece::Bad { code: Code::L2 },
+        [b, ..] => symbol_among(symbols_from(*b), bytes),
+    }
 }
 
 /// The comment or the symbol at the front of bytes.

@@ -2,8 +2,8 @@ use Rattle.std.proofs.Common.{◌≡◌, [], None, Some}
 use Rattle.grammar_core.specs.declared.table.Prod.TheVariants.{Call}
 use Rattle.grammar_core.specs.Arena.{read_trees}
 use Rattle.grammar_core.specs.Derives.{kinds}
-use Rattle.grammar_core.specs.Answers.{of_production, whole, outcome_of, steps_of}
-use Rattle.grammar_core.specs.Tasks.{tasks, left, AreTasks}
+use Rattle.grammar_core.specs.Answers.{of_production, whole, outcome_of}
+use Rattle.grammar_core.specs.Tasks.{tasks, left, AreTasks, steps_of}
 use Rattle.grammar_core.proofs.machine.run.Given as goal
 
 abbrev pub invariant-steps : goal.invariant-steps
