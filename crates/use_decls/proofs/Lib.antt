@@ -1,0 +1,2 @@
+mod Stepwise
+mod Counted

@@ -1,0 +1,11 @@
+use Rattle.std.proofs.Common.{◌≡◌, ◌++◌}
+use Rattle.std.specs.List.{filter_map}
+use Rattle.use_decls.specs.Conds.{inv_part}
+use Rattle.use_decls.proofs.conds.add_invs.Given as goal
+
+abbrev pub invariant-nodes : goal.invariant-nodes
+invariant-nodes l = record {
+  can : (goal.iterator-nodes).can_next l.node-iterator;
+  ends : (goal.iterator-nodes).is_finite l.node-iterator;
+  so_far : l.found.items ++ filter_map (inv_part l.lexed l.class) l.node-iterator ≡ l.fn.found.items ++ filter_map (inv_part l.lexed l.class) l.fn.nodes;
+}

@@ -1,0 +1,20 @@
+//! What a model declares, from the nodes of its tree, with the names filled in that it does not
+//! write.
+#![tactic(auto)]
+
+mod assocs;
+mod classes;
+mod conds;
+mod declarations;
+mod declared;
+mod lexed;
+mod positions;
+mod roles;
+mod types;
+mod unbuilt;
+
+pub use declarations::decls;
+pub use unbuilt::has_unbuilt_parts;
+
+#[cfg(test)]
+mod tests;
