@@ -1,45 +1,54 @@
-ghost use Rattle.std.specs.Prelude.{◌≡◌, ◌≤◌, IfOk, IfSome, IsOkUnless, length};
+ghost use Rattle.std.specs.Prelude.{◌≡◌, ◌≤◌, All, IfOk, IfSome, IsOkUnless, length, Some};
 ghost use Rattle.std.specs.FinMap.{get};
 ghost use Rattle.use_text.specs.Places.{place_at};
 ghost use Rattle.use_text.specs.Refusals.{refusal_at};
+ghost use Rattle.use_text.specs.Tokens.{IsWithin};
 ghost use Rattle.grammar_core.specs.Arena.{root_tree};
 ghost use Rattle.use_syntax.specs.Language.{language};
 ghost use Rattle.use_nodes.specs.Nodes.{place_of_first};
-ghost use Rattle.use_shell.specs.Models.{max_model, is_empty_model, refusal_of_tree, unbuilt, refusal_of_text, model_refusal};
+ghost use Rattle.use_decls.specs.Declarations.{decls_of};
+ghost use Rattle.use_shell.specs.Models.{max_model, refusal_of_decls, unbuilt, refusal_of_text, model_refusal};
 ghost use Rattle.use_shell.specs.Stops.{StopsByRead};
 
 use crate::stop::Stop;
+use class_decls::Decls;
+use class_rules::{RuleFault, judge};
 use grammar_core::{Grammar, GrammarFault};
 use std::alloc::Global;
+use use_decls::{decls, has_unbuilt_parts};
 use use_io::{Shelf, ShelfFault};
-use use_nodes::{FileNode, NodeRef, place_of_first};
+use use_nodes::place_of_first;
 use use_syntax::{Parsed, SyntaxFault, grammar, read_model};
 use use_text::{Code, Place, Refusal};
 
 /// The most bytes of a model file.
 const MAX_MODEL: u32 = 4_194_304;
 
-/// Whether it is a model, and declares nothing.
-fn is_empty_model(file: Option<FileNode<'_>>) -> bool
-    ensures { result ≡ is_empty_model file.entry }
+/// Why the declarations of a model are refused, if they are.
+fn refusal_of_decls(alloc: Global, place: Place, decls: &Decls) -> Result<Option<Refusal>, Stop>
+    ensures refusal { IfOk result (λ refusal. refusal ≡ refusal_of_decls place decls.now) }
+    ensures memory { IsOkUnless result Stop.Memory }
 {
-    match file {
-        Some(file) => {
-            let mut declarations = file.declarations;
-            declarations.next().is_none()
-        }
-        None => false,
+    match judge(alloc, decls) {
+        Err(RuleFault::Refused(refusal)) => Ok(Some(refusal)),
+        Err(RuleFault::Memory) => Err(Stop::Memory),
+        Ok(()) if has_unbuilt_parts(decls) => Ok(Some(unbuilt(place))),
+        Ok(()) => Ok(None),
     }
 }
 
 /// Why a model that was read is refused, if it is.
-fn refusal_of_tree(parsed: &Parsed) -> Option<Refusal>
-    ensures { result ≡ refusal_of_tree (place_of_first 1 parsed.now.tokens) (root_tree parsed.now.tree) }
+fn refusal_of_parsed(alloc: Global, parsed: &Parsed) -> Result<Option<Refusal>, Stop>
+    requires { All (IsWithin (length parsed.now.text)) parsed.now.tokens }
+    ensures refusal { IfOk result (λ refusal. refusal ≡ refusal_of_decls (place_of_first 1 parsed.now.tokens) (decls_of parsed.now.text parsed.now.tokens (root_tree parsed.now.tree))) }
+    ensures memory { IsOkUnless result Stop.Memory }
 {
-    if is_empty_model(FileNode::of(&NodeRef::root(&parsed.tree))) {
-        None
-    } else {
-        unbuilt(place_of_first(1, parsed.tokens.as_slice()))
+    match decls(alloc, parsed) {
+        Err(_) => Err(Stop::Memory),
+        Ok(decls) => {
+            let place = place_of_first(1, parsed.tokens.as_slice());
+            refusal_of_decls(alloc, place, &decls)
+        }
     }
 }
 
@@ -63,7 +72,7 @@ fn refusal_of_text(alloc: Global, grammar: &Grammar, text: &[u8]) -> Result<Opti
     ensures memory { IsOkUnless result Stop.Memory }
 {
     match read_model(alloc, grammar, text) {
-        Ok(parsed) => Ok(refusal_of_tree(&parsed)),
+        Ok(parsed) => refusal_of_parsed(alloc, &parsed),
         Err(SyntaxFault::Refused(refusal)) => Ok(Some(refusal)),
         Err(SyntaxFault::Memory) => Err(Stop::Memory),
     }
@@ -80,13 +89,13 @@ fn of_file(code: Code) -> Refusal
 }
 
 /// A form that is not built yet.
-fn unbuilt(place: Place) -> Option<Refusal>
-    ensures { result ≡ unbuilt place }
+fn unbuilt(place: Place) -> Refusal
+    ensures { Some result ≡ unbuilt place }
 {
-    Some(Refusal {
+    Refusal {
         code: Code::S0,
         place,
-    })
+    }
 }
 
 /// Why the model of this name is refused, if it is.

@@ -1,5 +1,7 @@
 ghost use Rattle.std.specs.Prelude.{◌≡◌, ◌<◌, None};
 
+mod models;
+
 use super::*;
 use std::alloc::Global;
 use std::marker::Brand;
@@ -126,9 +128,9 @@ const RUNS: [Run; 12] = [
     },
     Run {
         words: &["M.use"],
-        model: "\n model C class A end",
+        model: "\n model C class A < A end",
         input: "? 1",
-        output: "refused S0 at 2:2: form is not built yet\n",
+        output: "refused M4 at 2:16: inheritance has a cycle\n",
         status: Status::ModelRefused,
     },
     Run {
