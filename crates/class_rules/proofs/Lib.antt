@@ -3,3 +3,4 @@ pub mod Least
 pub mod Flags
 pub mod PlacedClasses
 pub mod Ordered
+pub mod Unnumbered
