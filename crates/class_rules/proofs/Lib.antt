@@ -4,3 +4,5 @@ pub mod Flags
 pub mod PlacedClasses
 pub mod Ordered
 pub mod Unnumbered
+pub mod Acyclic
+pub mod LeastAbove

@@ -5,7 +5,7 @@ use Rattle.std.specs.Option.{option_map_or, option_or}
 use Rattle.std.proofs.lemmas.Bool.{cases_Bool, cases_lt}
 use Rattle.std.proofs.lemmas.Bool.Decides.{eqb_tells, leb_tells}
 use Rattle.std.proofs.lemmas.List.Folds.{list_any-append}
-use Rattle.class_rules.specs.Cycles.{GoRound, have_parents_within, places_of, places_without, unnumbered}
+use Rattle.class_rules.specs.Cycles.{GoRound, NumbersEach, have_parents_within, places_of, places_without, unnumbered}
 use Rattle.class_rules.specs.Numbering.{closes_cycle, has_cycle, is_among, least_below, may_follow, numbered_on, numbering, row_at}
 use Rattle.class_rules.proofs.Flags.{least_within}
 use Rattle.class_rules.proofs.Least.{least_found, least_none}
@@ -316,3 +316,21 @@ closing parents low h before after =
     least_found (closes_cycle parents) (length parents) low
     (least_none (closes_cycle parents) low (λ i k. ⊎_elim (λ e. absurd (true≢false (sym (cycle_stays parents (suc i) low (omega arith) e) ∙ before))) (λ e. e) (cases_Bool (has_cycle parents (suc i)))))
     after h
+
+-- without a cycle every class has one number
+module _ (parents : List (List ℕ)) (none : nat_lt (length (numbering parents)) (length parents) ≡ false) where
+  enough : length parents ≤ length (numbering parents)
+  enough = ⊎_elim (λ t. absurd (true≢false (sym t.0 ∙ none))) (λ t. let k : length parents < suc (length (numbering parents)) = t.1 in omega arith) (leb_tells (suc (length (numbering parents))) (length parents))
+
+  pub numbers_each : NumbersEach (numbering parents) (length parents)
+  numbers_each = record {
+    as_many = let e = counted parents in let k = enough in omega arith;
+    each = λ i low.
+        ⊎_elim (λ e. e)
+        (λ e.
+        let some = some_length (unnumbered parents) i (is_without (numbering parents) (length parents) i low e) in
+        let all = counted parents in
+        let k = enough in
+        absurd (omega arith))
+        (cases_Bool (is_among (numbering parents) i));
+  }

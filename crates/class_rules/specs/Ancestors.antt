@@ -1,12 +1,12 @@
 -- Classes by number, and their ancestors.
-use Rattle.std.specs.Prelude.{ℕ, zero, suc, ◌<◌, nat_eq, nat_lt, List, [], ◌∷◌, map, filter, Option, slice_get, unwrap_or}
+use Rattle.std.specs.Prelude.{◌≡◌, ℕ, zero, suc, ◌<◌, Bool, true, nat_eq, nat_lt, List, [], ◌∷◌, map, filter, Option, slice_get, unwrap_or}
 use Rattle.std.specs.List.{AllByRecursion, filter_map, flat_map, position_from}
 use Rattle.std.specs.Option.{option_and_then, option_map_or}
 use Rattle.std.specs.Ordering.{nat_cmp}
 use Rattle.use_orders.specs.Canon.{set_of}
 use Rattle.class_decls.specs.declared.decls.ClassDecl.{ClassDecl}
 use Rattle.class_decls.specs.declared.decls.Decls.{Decls}
-use Rattle.class_rules.specs.Numbering.{numbering, parent_places, row_at}
+use Rattle.class_rules.specs.Numbering.{is_among, numbering, parent_places, row_at}
 
 -- the number of the class at a place
 abbrev pub number_at : Decls → ℕ → Option ℕ
@@ -24,6 +24,16 @@ upward parents (suc n) c = c ∷ flat_map (upward parents n) (row_at parents c)
 -- a class and its ancestors, by number; parents have smaller numbers, so no way up has more steps than the class's number
 abbrev pub ancestors : List (List ℕ) → ℕ → List ℕ
 ancestors parents c = set_of nat_cmp (upward parents (suc c) c)
+
+-- with each class that it holds, a set holds its parents
+abbrev pub HoldsParents : List (List ℕ) → (ℕ → Bool) → Type 0
+HoldsParents parents held = (d : ℕ) → held d ≡ true → AllByRecursion (λ p. held p ≡ true) (row_at parents d)
+
+-- the least set that holds a class and the parents of its members
+pub record IsLeastAbove (parents : List (List ℕ)) (c : ℕ) (above : List ℕ) : Type 0 where
+  pub class : is_among above c ≡ true
+  pub parents_too : HoldsParents parents (is_among above)
+  pub least : (held : ℕ → Bool) → held c ≡ true → HoldsParents parents held → (d : ℕ) → is_among above d ≡ true → held d ≡ true
 
 -- each parent has a smaller number
 abbrev pub IsDownward : List (List ℕ) → Type 0

@@ -24,3 +24,8 @@ have_parents_within parents cs = list_all (λ c. nat_lt c (length parents) && li
 pub record GoRound (parents : List (List ℕ)) (cs : List ℕ) : Type 0 where
   pub some : 0 < length cs
   pub each : have_parents_within parents cs ≡ true
+
+-- every class has one number: there are as many numbers as classes, and each class has one
+pub record NumbersEach (order : List ℕ) (count : ℕ) : Type 0 where
+  pub as_many : length order ≡ count
+  pub each : (i : ℕ) → i < count → is_among order i ≡ true

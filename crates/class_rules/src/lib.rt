@@ -20,7 +20,7 @@ mod rules;
 pub use by_class::ClassRule;
 pub use clash::Clash;
 pub use hierarchy::Hierarchy;
-pub use laws::cycles_go_round;
+pub use laws::{ancestors_are_least, classes_are_numbered, cycles_go_round};
 pub use rules::{RuleFault, judge};
 
 #[cfg(test)]
