@@ -1,5 +1,5 @@
 -- Classes by number, and their ancestors.
-use Rattle.std.specs.Prelude.{◌≡◌, ℕ, zero, suc, ◌<◌, Bool, true, nat_eq, nat_lt, List, [], ◌∷◌, map, filter, Option, slice_get, unwrap_or}
+use Rattle.std.specs.Prelude.{◌≡◌, ℕ, zero, suc, ◌<◌, Bool, true, nat_eq, nat_lt, List, [], ◌∷◌, map, filter, Option, None, slice_get, slice_index_or, unwrap_or}
 use Rattle.std.specs.List.{AllByRecursion, filter_map, flat_map, position_from}
 use Rattle.std.specs.Option.{option_and_then, option_map_or}
 use Rattle.std.specs.Ordering.{nat_cmp}
@@ -38,6 +38,12 @@ pub record IsLeastAbove (parents : List (List ℕ)) (c : ℕ) (above : List ℕ)
 -- each parent has a smaller number
 abbrev pub IsDownward : List (List ℕ) → Type 0
 IsDownward parents = (c : ℕ) → AllByRecursion (λ p. p < c) (row_at parents c)
+
+-- what is kept of the classes of declarations: their places by number, the number at each place, and parents by number
+pub record IsHierarchyOf (ds : Decls) (order : List ℕ) (numbers : List (Option ℕ)) (parents : List (List ℕ)) : Type 0 where
+  pub in_order : order ≡ numbering (parent_places ds)
+  pub numbered : (i : ℕ) → slice_index_or numbers i None ≡ number_at ds i
+  pub parented : parents ≡ parent_numbers ds
 
 -- the class of a number
 abbrev pub class_numbered : Decls → ℕ → Option ClassDecl
