@@ -1,5 +1,5 @@
 -- The steps of a builder, over its two lists.
-use Rattle.std.proofs.Common.{◌≡◌, ℕ, ◌+◌, ◌-◌, ◌≤◌, List, [], ◌∷◌, ◌++◌, length, map, take, drop, min, cond, false, Some, Result, Ok, Err, MatchResult, is_ok, slice_get, refl, sym, ap, ◌∙◌, arith, subst, length-append}
+use Rattle.std.proofs.Common.{◌≡◌, ℕ, zero, suc, slice_index_or, slice_set, ◌+◌, ◌-◌, ◌≤◌, List, [], ◌∷◌, ◌++◌, length, map, take, drop, min, cond, false, Some, Result, Ok, Err, MatchResult, is_ok, slice_get, refl, sym, ap, ◌∙◌, arith, subst, length-append}
 use Rattle.std.specs.Result.{is_err}
 use Rattle.std.proofs.Math.Nat.{min-le_left}
 use Rattle.std.proofs.lemmas.List.{length-map, map-append, take_all, length-drop}
@@ -59,6 +59,25 @@ module _ (nodes waiting : List Node) (r start i : ℕ) (b : IsBuilt (built nodes
       let e : i ≡ min (length done) start = least ∙ ap (λ (k : ℕ). min k start) (sym long) in
       ap (λ (l : List Node). read_trees (built (nodes ++ drop i waiting) l)) h ∙ read_close nodes waiting r i b.ahead low ∙ ap (λ (k : ℕ). closed r k done) e ∙ closed_past r start done
   close_reads (Err e) new h = h.0
+
+-- the last element alone
+pub one_left : (l : List Node) (i : ℕ) (n d : Node) → i + 1 ≡ length l → n ≡ slice_index_or l i d → drop i l ≡ n ∷ []
+one_left [] i n d h e = absurd (omega (arith, h))
+one_left (x ∷ []) zero n d h e = ap (λ (y : Node). y ∷ []) (sym e)
+one_left (x ∷ y ∷ ys) zero n d h e = absurd (omega (arith, h))
+one_left (x ∷ xs) (suc i) n d h e = one_left xs i n d (omega (arith, h)) e
+
+last_set : (l : List Node) (i : ℕ) (x : Node) → i + 1 ≡ length l → slice_set l i x ≡ take i l ++ (x ∷ [])
+last_set [] i x h = absurd (omega (arith, h))
+last_set (y ∷ []) zero x h = refl
+last_set (y ∷ z ∷ l) zero x h = absurd (omega (arith, h))
+last_set (y ∷ l) (suc i) x h = ap (λ (m : List Node). y ∷ m) (last_set l i x (omega (arith, h)))
+
+-- a rule in the place of the last node
+pub one_set : (l : List Node) (i r first first' : ℕ) → i + 1 ≡ length l → first ≡ first' → slice_set l i (Rule r first 1) ≡ take i l ++ (Rule r first' (length l - i) ∷ [])
+one_set l i r first first' h e =
+    let one : 1 ≡ length l - i = omega (arith, h) in
+    last_set l i (Rule r first 1) h ∙ ap (λ (k : ℕ). take i l ++ (Rule r k 1 ∷ [])) e ∙ ap (λ (k : ℕ). take i l ++ (Rule r first' k ∷ [])) one
 
 -- a slice from a place on
 pub slice_from : {X : Type 0} (i : ℕ) (l : List X) → take (length l - i) (drop i l) ≡ drop i l

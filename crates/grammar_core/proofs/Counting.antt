@@ -1,6 +1,7 @@
 -- What a place leads to is more than what the places after it lead to, where no place leads to itself.
 use Rattle.std.proofs.Common.{◌≡◌, ℕ, ◌<◌, ◌≤◌, List, [], ◌∷◌, length, Bool, true, false, zero, suc, refl, sym, ◌∙◌, arith}
-use Rattle.grammar_core.specs.Paths.{IsIn, next, Path, is_marked, IsRow}
+use Rattle.grammar_core.specs.Paths.{IsIn, next, Path, is_marked}
+use Rattle.grammar_core.specs.Marks.{IsRow}
 
 abbrev pub marks : List Bool → ℕ
 marks [] = 0

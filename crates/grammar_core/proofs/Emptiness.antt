@@ -5,8 +5,9 @@ use Rattle.grammar_core.specs.declared.table.Table.{Table}
 use Rattle.grammar_core.specs.declared.table.Prod.{Prod}
 use Rattle.grammar_core.specs.declared.table.Prod.TheVariants.{Tok, Call, Seq, Case, Star}
 use Rattle.grammar_core.specs.Tables.{choices}
-use Rattle.grammar_core.specs.Paths.{IsIn, is_marked, set_mark}
-use Rattle.grammar_core.specs.Empty.{MayBeEmpty, IsEmptyProd, AllMayBeEmpty, is_marked_option, all_marked, any_marked, empty_by, empty_sweep, MarksEmpty}
+use Rattle.grammar_core.specs.Paths.{IsIn, is_marked}
+use Rattle.grammar_core.specs.Empty.{MayBeEmpty, IsEmptyProd, AllMayBeEmpty, is_marked_option, all_marked, any_marked, empty_by}
+use Rattle.grammar_core.specs.Marks.{set_mark, empty_sweep, MarksEmpty}
 use Rattle.grammar_core.proofs.Marking.{set_length, set_keeps, set_marks, set_only, none_marked}
 
 step_keeps : (v : Bool) (seen : List Bool) (i r : ℕ) → is_marked seen r ≡ true → is_marked (cond v (set_mark seen i) seen) r ≡ true

@@ -1,7 +1,8 @@
 -- What marking does to the marks.
 use Rattle.std.proofs.Common.{◌≡◌, ℕ, ◌+◌, ◌<◌, ◌≤◌, List, [], ◌∷◌, length, Option, Some, None, Bool, true, false, cond, slice_get, slice_set, zero, suc, refl, sym, ap, ◌∙◌, arith, subst, inl, inr, ◌⊎◌, ⊎_elim, add-zero, replicate}
 use Rattle.std.proofs.lemmas.List.{length-replicate}
-use Rattle.grammar_core.specs.Paths.{IsIn, next, places_of, Path, is_marked, unmarked, set_mark, mark_all, sweep, IsRow}
+use Rattle.grammar_core.specs.Paths.{IsIn, next, places_of, Path, is_marked}
+use Rattle.grammar_core.specs.Marks.{unmarked, set_mark, mark_all, sweep, IsRow}
 
 pub set_outside : (seen : List Bool) (q : ℕ) → length seen ≤ q → seen ≡ set_mark seen q
 set_outside [] q h = refl

@@ -7,8 +7,9 @@ use Rattle.grammar_core.specs.declared.table.Rule.{Rule}
 use Rattle.grammar_core.specs.declared.table.Prod.{Prod}
 use Rattle.grammar_core.specs.declared.table.Prod.TheVariants.{Tok, Call, Seq, Case, Star}
 use Rattle.grammar_core.specs.Tables.{rule_from, rule_at, unnested, next_prods, graph_of}
-use Rattle.grammar_core.specs.Paths.{IsIn, next, places_of, Path, is_marked, unmarked, set_mark, mark_all, sweep, IsRow}
+use Rattle.grammar_core.specs.Paths.{IsIn, next, places_of, Path, is_marked}
 use Rattle.grammar_core.specs.Unfit.{Unfit}
+use Rattle.grammar_core.specs.Marks.{unmarked, set_mark, mark_all, sweep, IsRow}
 use Rattle.grammar_core.proofs.Marking.{Sound, Started, all_length, sweep_length, sweep_is_sound, sweep_is_started, row_done, first_sound, first_started, first_long}
 use Rattle.grammar_core.proofs.Counting.{marks, rank_falls}
 

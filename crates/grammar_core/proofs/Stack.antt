@@ -17,8 +17,8 @@ use Rattle.grammar_core.specs.Trees.{ParseTree}
 use Rattle.grammar_core.specs.Empty.{MayBeEmpty}
 use Rattle.grammar_core.specs.Unfit.{IsFit}
 use Rattle.grammar_core.specs.Derives.{Outcome, begins, branch_of, max_level, level_in}
-use Rattle.grammar_core.specs.Answers.{Answer, Reading, then_at, in_turn, again, close, of_production, whole, outcome_of, Meets}
-use Rattle.grammar_core.specs.Tasks.{task, tasks_from, tasks, left, reads, IsTask, AreTasks, steps_of}
+use Rattle.grammar_core.specs.Answers.{Answer, Reading, then_at, in_turn, again, close, of_production, whole, outcome_of}
+use Rattle.grammar_core.specs.Tasks.{task, tasks_from, tasks, left, reads, IsTask, AreTasks, steps_of, Meets}
 use Rattle.grammar_core.proofs.Fits.{IsBelow, AllBelow, OtherBelow, branch_below, fits, rule_there}
 use Rattle.grammar_core.proofs.Same.{unroll}
 use Rattle.grammar_core.proofs.Complete.{at_level, at_no_level, stop_some}

@@ -10,9 +10,9 @@ use Rattle.grammar_core.specs.declared.table.Prod.{Prod}
 use Rattle.grammar_core.specs.declared.table.Prod.TheVariants.{Tok, Call, Seq, Case, Star}
 use Rattle.grammar_core.specs.Tables.{rule_from, rule_at, choices, next_prods, graph_of}
 use Rattle.grammar_core.specs.Paths.{IsIn, Path, is_marked}
-use Rattle.grammar_core.specs.Empty.{MarksEmpty}
 use Rattle.grammar_core.specs.Unfit.{Unfit, IsOutside, IsTable}
-use Rattle.grammar_core.specs.Checks.{any_past, outside_by, empty_body_by, ComesBack, RuleComesBack, CallComesBack}
+use Rattle.grammar_core.specs.Checks.{any_past, outside_by, empty_body_by}
+use Rattle.grammar_core.specs.Marks.{MarksEmpty, ComesBack, RuleComesBack, CallComesBack}
 use Rattle.grammar_core.proofs.Ranks.{graph_length}
 use Rattle.grammar_core.proofs.Fits.{all_inside_at, rule_at-to}
 

@@ -10,8 +10,9 @@ use Rattle.grammar_core.specs.Trees.{ParseTree, node, row_of}
 use Rattle.grammar_core.specs.Arena.{root_tree}
 use Rattle.grammar_core.specs.Unfit.{IsFit}
 use Rattle.grammar_core.specs.Derives.{Outcome, below_rule, GivesProd, Derives, Stuck, Deep, Verdict, Holds, HoldsOnce}
-use Rattle.grammar_core.specs.Answers.{Answer, of_production, whole, outcome_of, Meets}
+use Rattle.grammar_core.specs.Answers.{Answer, of_production, whole, outcome_of}
 use Rattle.grammar_core.specs.Parses.{IsFaultOf, Tells, first_tree, verdict_of, verdict as computed}
+use Rattle.grammar_core.specs.Tasks.{Meets}
 use Rattle.grammar_core.proofs.Known.{start_known, start_only, known_at}
 
 -- what an outcome of the start rule means for the whole list

@@ -1,12 +1,9 @@
 -- What a production answers, computed: with the trees that were read before it, and with a count of the steps.
-use Rattle.std.specs.Prelude.{◌≡◌, ℕ, ◌+◌, ◌-◌, ◌*◌, if◌then◌else◌, nat_lt, List, [], ◌∷◌, ◌++◌, length, Option, Some, None, slice_get, zero, suc, Result}
-use Rattle.std.specs.Prelude.{Ok, Err}
+use Rattle.std.specs.Prelude.{◌≡◌, ℕ, ◌+◌, ◌-◌, ◌*◌, if◌then◌else◌, nat_lt, List, [], ◌∷◌, ◌++◌, length, Option, Some, None, slice_get, zero, suc}
 use Rattle.grammar_core.specs.declared.table.Table.{Table}
 use Rattle.grammar_core.specs.declared.table.Rule.{Rule}
 use Rattle.grammar_core.specs.declared.table.Prod.{Prod}
 use Rattle.grammar_core.specs.declared.table.Prod.TheVariants.{Tok, Call, Seq, Case, Star}
-use Rattle.grammar_core.specs.declared.fault.ParseFault.{ParseFault}
-use Rattle.grammar_core.specs.declared.fault.ParseFault.TheVariants.{Memory, Stuck, Deep}
 use Rattle.grammar_core.specs.Tables.{rule_at}
 use Rattle.grammar_core.specs.Trees.{ParseTree, leaf}
 use Rattle.grammar_core.specs.Arena.{closed}
@@ -85,10 +82,3 @@ outcome_of (ends to done n) = Some (Outcome.ends to done)
 outcome_of (stuck at n) = Some (Outcome.stuck at)
 outcome_of (deep at n) = Some (Outcome.deep at)
 outcome_of (spent n) = None
-
--- what the parser gave for this answer, with its trees; want of memory may always come
-abbrev pub Meets : Result ℕ ParseFault → List ParseTree → Answer → Type 0
-Meets (Ok to) trees a = outcome_of a ≡ Some (Outcome.ends to trees)
-Meets (Err Memory) trees a = Unit {0}
-Meets (Err (Stuck at)) trees a = outcome_of a ≡ Some (Outcome.stuck at)
-Meets (Err (Deep at)) trees a = outcome_of a ≡ Some (Outcome.deep at)

@@ -1,10 +1,10 @@
 -- Which productions may derive no token: the least relation, and a table of marks that is filled up to it.
-use Rattle.std.specs.Prelude.{◌≡◌, ℕ, ◌+◌, Bool, true, false, List, [], ◌∷◌, Option, Some, None, slice_get, if◌then◌else◌}
+use Rattle.std.specs.Prelude.{◌≡◌, ℕ, Bool, true, false, List, [], ◌∷◌, Option, Some, None, slice_get, if◌then◌else◌}
 use Rattle.grammar_core.specs.declared.table.Table.{Table}
 use Rattle.grammar_core.specs.declared.table.Branch.{Branch}
 use Rattle.grammar_core.specs.declared.table.Prod.{Prod}
 use Rattle.grammar_core.specs.declared.table.Prod.TheVariants.{Tok, Call, Seq, Case, Star}
-use Rattle.grammar_core.specs.Paths.{IsIn, is_marked, set_mark}
+use Rattle.grammar_core.specs.Paths.{IsIn, is_marked}
 use Rattle.grammar_core.specs.Tables.{choices}
 
 mutual
@@ -41,13 +41,3 @@ empty_by rules seen (Call r) = is_marked_option seen (slice_get rules r)
 empty_by rules seen (Seq ps) = all_marked seen ps
 empty_by rules seen (Case bs other) = any_marked seen (choices bs other)
 empty_by rules seen (Star firsts q) = true
-
--- with those marked that may derive no token where those marked may, the first being at i
-abbrev pub empty_sweep : List ℕ → List Bool → ℕ → List Prod → List Bool
-empty_sweep rules seen i [] = seen
-empty_sweep rules seen i (x ∷ xs) = empty_sweep rules (if empty_by rules seen x then set_mark seen i else seen) (i + 1) xs
-
--- the marks are exactly the productions that may derive no token
-pub record MarksEmpty (g : Table) (seen : List Bool) : Type 0 where
-  pub sound : (p : ℕ) → is_marked seen p ≡ true → MayBeEmpty g p
-  pub complete : (p : ℕ) → MayBeEmpty g p → is_marked seen p ≡ true

@@ -3,6 +3,7 @@ pub mod Paths
 pub mod Empty
 pub mod Unfit
 pub mod Checks
+pub mod Marks
 pub mod Trees
 pub mod Derives
 pub mod Choices

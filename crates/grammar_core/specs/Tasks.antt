@@ -2,6 +2,7 @@
 use Rattle.std.specs.Prelude.{◌≡◌, ℕ, ◌<◌, List, [], ◌∷◌, ◌++◌, length, map, suc, Option, Some, option_to_list, Result, Ok, Err}
 use Rattle.grammar_core.specs.declared.table.Table.{Table}
 use Rattle.grammar_core.specs.declared.fault.ParseFault.{ParseFault}
+use Rattle.grammar_core.specs.declared.fault.ParseFault.TheVariants.{Memory, Stuck, Deep}
 use Rattle.grammar_core.specs.declared.machine.Done.{Done}
 use Rattle.grammar_core.specs.declared.table.Prod.{Prod}
 use Rattle.grammar_core.specs.declared.machine.Position.{Position}
@@ -10,7 +11,8 @@ use Rattle.grammar_core.specs.declared.machine.Task.TheVariants.{Read, Close}
 use Rattle.grammar_core.specs.declared.machine.Work.{Work}
 use Rattle.grammar_core.specs.Trees.{ParseTree}
 use Rattle.grammar_core.specs.Arena.{closed, read_trees}
-use Rattle.grammar_core.specs.Answers.{Answer, ends, stuck, deep, spent, Reading, then_at, of_production, whole, Meets}
+use Rattle.grammar_core.specs.Derives.{Outcome}
+use Rattle.grammar_core.specs.Answers.{Answer, ends, stuck, deep, spent, Reading, then_at, of_production, whole, outcome_of}
 
 abbrev pub steps_of : Answer → ℕ
 steps_of (ends to done n) = n
@@ -47,6 +49,13 @@ AreTasks g (t ∷ ts) = IsTask g t × AreTasks g ts
 -- the tasks that are left, with the one that comes next
 abbrev pub left : List Task → Option Task → List Task
 left stack next = stack ++ option_to_list next
+
+-- what the parser gave for this answer, with its trees; want of memory may always come
+abbrev pub Meets : Result ℕ ParseFault → List ParseTree → Answer → Type 0
+Meets (Ok to) trees a = outcome_of a ≡ Some (Outcome.ends to trees)
+Meets (Err Memory) trees a = Unit {0}
+Meets (Err (Stuck at)) trees a = outcome_of a ≡ Some (Outcome.stuck at)
+Meets (Err (Deep at)) trees a = outcome_of a ≡ Some (Outcome.deep at)
 
 -- one step was done, which counts one, of a task that answers this
 abbrev pub Stepped : Table → List ℕ → Result Done ParseFault → Work → Work → Answer → Type 0

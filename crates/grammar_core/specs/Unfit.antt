@@ -48,11 +48,6 @@ pub record IsFirstUnfit (g : Table) (p : ℕ) : Type 0 where
   pub unfit : Unfit g p
   pub before : (q : ℕ) → q < p → Unfit g q → ⊥
 
--- what the test of a table says of the first unfit production
-abbrev pub IsFirstOf : Table → Option ℕ → Type 0
-IsFirstOf g None = (p : ℕ) → Unfit g p → ⊥
-IsFirstOf g (Some p) = IsFirstUnfit g p
-
 -- a fault names the first unfit production; want of memory may always come
 abbrev pub IsGrammarFault : Table → GrammarFault → Type 0
 IsGrammarFault g Memory = Unit {0}

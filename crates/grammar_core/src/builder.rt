@@ -1,4 +1,4 @@
-ghost use Rattle.std.specs.Prelude.{◌≡◌, ◌<◌, ◌++◌, [], ◌∷◌, ◌-◌, length, slice_get, Some, MatchResult};
+ghost use Rattle.std.specs.Prelude.{◌≡◌, ◌<◌, ◌+◌, ◌++◌, [], ◌∷◌, ◌-◌, length, slice_get, Some, MatchResult};
 ghost use Rattle.grammar_core.specs.Trees.{leaf};
 ghost use Rattle.grammar_core.specs.Arena.{closed, read_trees, root_tree};
 
@@ -63,6 +63,9 @@ impl Builder {
         ensures { MatchResult result (λ u. read_trees self.new ≡ closed rule start (read_trees self.old)) (λ e. e ≡ ParseFault.Memory) }
     {
         let start = self.waiting.len().min(start as usize);
+        if start + 1 == self.waiting.len() {
+            return self.close_one(rule, start);
+        }
         let first = self.nodes.len() as u64;
         let count = (self.waiting.len() - start) as u64;
         if self
@@ -74,6 +77,18 @@ impl Builder {
         }
         self.waiting.truncate(start);
         put(&mut self.waiting, Node::Rule(rule, first, count))
+    }
+
+    /// Puts the last tree below a rule, as most rules have one part. The rule takes its place.
+    fn close_one(&mut self, rule: u16, at: usize) -> Result<(), ParseFault>
+        requires { at + 1 ≡ length self.old.waiting }
+        ensures { MatchResult result (λ u. read_trees self.new ≡ closed rule at (read_trees self.old)) (λ e. e ≡ ParseFault.Memory) }
+    {
+        let first = self.nodes.len() as u64;
+        let node = self.waiting[at];
+        put(&mut self.nodes, node)?;
+        self.waiting[at] = Node::Rule(rule, first, 1);
+        Ok(())
     }
 
     /// Forgets the trees.

@@ -1,9 +1,9 @@
 ghost use Rattle.std.specs.Prelude.{◌≡◌, ◌≤◌, ◌↔◌, ◌<◌, [], length, slice_get, Some, IfOk, IsTrue};
-ghost use Rattle.grammar_core.specs.Empty.{MarksEmpty};
 ghost use Rattle.grammar_core.specs.Paths.{Path};
 ghost use Rattle.grammar_core.specs.Tables.{choices, graph_of, rule_at};
-ghost use Rattle.grammar_core.specs.Checks.{CallComesBack, RuleComesBack, any_past, empty_body_by, outside_by};
-ghost use Rattle.grammar_core.specs.Unfit.{IsFirstOf, IsTable, Unfit};
+ghost use Rattle.grammar_core.specs.Checks.{any_past, empty_body_by, outside_by};
+ghost use Rattle.grammar_core.specs.Unfit.{IsTable, Unfit};
+ghost use Rattle.grammar_core.specs.Marks.{MarksEmpty, CallComesBack, RuleComesBack, IsFirstOf};
 
 use crate::lookup::{is_marked, rule_at};
 use crate::marks::{empty_marks, reach_from};

@@ -1,8 +1,8 @@
 ghost use Rattle.std.specs.Prelude.{◌≡◌, ◌+◌, ◌-◌, ◌<◌, ◌^◌, ◌++◌, [], ◌∷◌, length, reverse, MatchOption, MatchResult, Some, option_to_list, slice_get, ⊤};
-ghost use Rattle.grammar_core.specs.Answers.{Meets, of_production, whole};
+ghost use Rattle.grammar_core.specs.Answers.{of_production, whole};
 ghost use Rattle.grammar_core.specs.Arena.{read_trees};
 ghost use Rattle.grammar_core.specs.Derives.{kinds};
-ghost use Rattle.grammar_core.specs.Tasks.{AreTasks, IsTask, Stepped, answer_at, reads, task};
+ghost use Rattle.grammar_core.specs.Tasks.{AreTasks, IsTask, Stepped, answer_at, reads, task, Meets};
 ghost use Rattle.grammar_core.specs.Unfit.{IsFit};
 ghost use Rattle.grammar_core.specs.declared.table.Prod.TheVariants.{Call};
 

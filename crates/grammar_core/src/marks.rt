@@ -1,7 +1,8 @@
 ghost use Rattle.std.specs.Prelude.{◌≡◌, ◌<◌, length, IfOk, if◌then◌else◌, [], slice_get};
-ghost use Rattle.grammar_core.specs.Empty.{MarksEmpty, all_marked, any_marked, empty_by, empty_sweep, is_marked_option};
-ghost use Rattle.grammar_core.specs.Paths.{Grows, IsRow, is_marked, mark_all, set_mark, sweep};
+ghost use Rattle.grammar_core.specs.Empty.{all_marked, any_marked, empty_by, is_marked_option};
+ghost use Rattle.grammar_core.specs.Paths.{is_marked};
 ghost use Rattle.grammar_core.specs.Tables.{choices, graph_of, next_prods, rule_at, unnested};
+ghost use Rattle.grammar_core.specs.Marks.{Grows, IsRow, mark_all, set_mark, sweep, MarksEmpty, empty_sweep};
 
 use crate::lookup::{is_marked, rule_at};
 use crate::{Branch, Prod, Table};

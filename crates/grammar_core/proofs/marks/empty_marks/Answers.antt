@@ -1,6 +1,6 @@
 use Rattle.std.proofs.Common.{ℕ, ◌≡◌, List, Bool, length, ap, subst, sym, ◌∙◌}
 use Rattle.grammar_core.specs.declared.table.Prod.{Prod}
-use Rattle.grammar_core.specs.Empty.{MarksEmpty, empty_sweep}
+use Rattle.grammar_core.specs.Marks.{MarksEmpty, empty_sweep}
 use Rattle.grammar_core.proofs.Emptiness.{Sound, sweep_length, sweep_is_sound, marks_done}
 use Rattle.grammar_core.proofs.marks.empty_marks.Goals as goal
 

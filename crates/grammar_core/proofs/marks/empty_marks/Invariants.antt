@@ -1,5 +1,5 @@
 use Rattle.std.proofs.Common.{◌≡◌, length}
-use Rattle.grammar_core.specs.Paths.{unmarked}
+use Rattle.grammar_core.specs.Marks.{unmarked}
 use Rattle.grammar_core.proofs.Emptiness.{Sound}
 use Rattle.grammar_core.proofs.marks.empty_marks.Given as goal
 

@@ -1,6 +1,5 @@
 use Rattle.std.proofs.Common.{◌≡◌, drop}
-use Rattle.grammar_core.specs.Empty.{empty_sweep}
-use Rattle.grammar_core.specs.Paths.{Grows}
+use Rattle.grammar_core.specs.Marks.{Grows, empty_sweep}
 use Rattle.grammar_core.proofs.marks.empty_sweep.Given as goal
 
 abbrev pub invariant-prods : goal.invariant-prods

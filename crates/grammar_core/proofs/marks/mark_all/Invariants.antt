@@ -1,5 +1,5 @@
 use Rattle.std.proofs.Common.{◌≡◌, drop}
-use Rattle.grammar_core.specs.Paths.{Grows, mark_all}
+use Rattle.grammar_core.specs.Marks.{Grows, mark_all}
 use Rattle.grammar_core.proofs.marks.mark_all.Given as goal
 
 abbrev pub invariant-parts : goal.invariant-parts

@@ -1,6 +1,6 @@
 use Rattle.std.proofs.Common.{◌≡◌, drop}
-use Rattle.grammar_core.specs.Paths.{Grows, mark_all}
 use Rattle.grammar_core.specs.Tables.{choices}
+use Rattle.grammar_core.specs.Marks.{Grows, mark_all}
 use Rattle.grammar_core.proofs.marks.mark_branches.Given as goal
 
 abbrev pub invariant-branches : goal.invariant-branches

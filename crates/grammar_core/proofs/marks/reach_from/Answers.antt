@@ -2,7 +2,7 @@ use Rattle.std.proofs.Common.{◌≡◌, ℕ, List, Some, slice_get, refl, repli
 use Rattle.std.proofs.lemmas.Option.{slice_get_read}
 use Rattle.grammar_core.specs.declared.table.Prod.{Prod}
 use Rattle.grammar_core.specs.Tables.{graph_of, next_prods}
-use Rattle.grammar_core.specs.Paths.{mark_all, IsRow}
+use Rattle.grammar_core.specs.Marks.{mark_all, IsRow}
 use Rattle.grammar_core.proofs.Marking.{Sound, Started, sweep_is_sound, sweep_is_started, sweep_length, row_done, first_sound, first_started, first_long}
 use Rattle.grammar_core.proofs.Ranks.{graph_length, graph_at}
 use Rattle.grammar_core.proofs.marks.reach_from.Goals as goal

@@ -1,6 +1,6 @@
 use Rattle.std.proofs.Common.{◌≡◌, length}
-use Rattle.grammar_core.specs.Paths.{unmarked}
 use Rattle.grammar_core.specs.Tables.{graph_of}
+use Rattle.grammar_core.specs.Marks.{unmarked}
 use Rattle.grammar_core.proofs.Marking.{Sound, Started}
 use Rattle.grammar_core.proofs.marks.reach_from.Given as goal
 

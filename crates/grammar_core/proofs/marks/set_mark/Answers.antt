@@ -1,5 +1,6 @@
 use Rattle.std.proofs.Common.{rules, ◌≡◌, ◌<◌, List, Bool, false, length, arith, subst, sym}
-use Rattle.grammar_core.specs.Paths.{unmarked, is_marked}
+use Rattle.grammar_core.specs.Paths.{is_marked}
+use Rattle.grammar_core.specs.Marks.{unmarked}
 use Rattle.grammar_core.proofs.Marking.{set_outside, set_marked, set_new, set_fewer}
 use Rattle.grammar_core.proofs.marks.set_mark.Goals as goal
 

@@ -1,6 +1,6 @@
 use Rattle.std.proofs.Common.{◌≡◌, drop, map}
-use Rattle.grammar_core.specs.Paths.{Grows, sweep}
 use Rattle.grammar_core.specs.Tables.{graph_of, next_prods}
+use Rattle.grammar_core.specs.Marks.{Grows, sweep}
 use Rattle.grammar_core.proofs.marks.sweep.Given as goal
 
 abbrev pub invariant-rows : goal.invariant-rows
