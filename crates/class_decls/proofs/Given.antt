@@ -24,7 +24,8 @@ none_right (Some b) p e = cc
 
 module _ {A B : Type 0} (f : A → Option B) where
   -- nothing is given of one element more
-  pub given_none : (xs : List A) (i : ℕ) (x : A) → i < length xs → x ≡ get_or xs i x → first_given f (take i xs) ≡ None → f x ≡ None → first_given f (take (i + 1) xs) ≡ None
+  pub given_none : (xs : List A) (i : ℕ) (x : A) → i < length xs → x ≡ get_or xs i x → first_given f (take i xs) ≡ None → f x ≡ None
+      → first_given f (take (i + 1) xs) ≡ None
   given_none [] i x h e before here = absurd (omega arith)
   given_none (y ∷ ys) zero x h e before here = or_none (f y) None (ap f (sym e) ∙ here)
   given_none (y ∷ ys) (suc i) x h e before here =
@@ -33,7 +34,8 @@ module _ {A B : Type 0} (f : A → Option B) where
       ∙ given_none ys i x (omega arith) e (none_right (f y) (first_given f (take i ys)) before) here)
 
   -- what is given of the first
-  pub given_at : (xs : List A) (i : ℕ) (x : A) → i < length xs → x ≡ get_or xs i x → first_given f (take i xs) ≡ None → is_some (f x) ≡ true → first_given f xs ≡ f x
+  pub given_at : (xs : List A) (i : ℕ) (x : A) → i < length xs → x ≡ get_or xs i x → first_given f (take i xs) ≡ None → is_some (f x) ≡ true
+      → first_given f xs ≡ f x
   given_at [] i x h e before here = absurd (omega arith)
   given_at (y ∷ ys) zero x h e before here = rw (← e) (or_some (f x) (first_given f ys) here)
   given_at (y ∷ ys) (suc i) x h e before here =

@@ -29,12 +29,14 @@ module _ {A B : Type 0} (f : ℕ → A → List B) where
       rw e (from-take 0 xs i d h ∙ rw z refl)
 
   -- one element more behind what is there
-  pub numbered_more : (bs : List B) (xs : List A) (i : ℕ) (x : A) → i < length xs → x ≡ get_or xs i x → (bs ++ numbered f (take i xs)) ++ f i x ≡ bs ++ numbered f (take (i + 1) xs)
+  pub numbered_more : (bs : List B) (xs : List A) (i : ℕ) (x : A) → i < length xs → x ≡ get_or xs i x → (bs ++ numbered f (take i xs)) ++ f i x ≡ bs
+      ++ numbered f (take (i + 1) xs)
   numbered_more bs xs i x h e =
       append_assoc bs (numbered f (take i xs)) (f i x) ∙ ap (λ ys. bs ++ ys) (ap (λ y. numbered f (take i xs) ++ f i y) e ∙ sym (numbered-take xs i x h))
 
 -- the same of what the elements stand for
-from_map : {A B C : Type 0} (f : ℕ → B → List C) (h : A → B) (n : ℕ) (xs : List A) → flat_map (λ p. f p.0 (h p.1)) (enumerate_from n xs) ≡ flat_map (λ p. f p.0 p.1) (enumerate_from n (map h xs))
+from_map : {A B C : Type 0} (f : ℕ → B → List C) (h : A → B) (n : ℕ) (xs : List A) → flat_map (λ p. f p.0 (h p.1)) (enumerate_from n xs) ≡ flat_map
+    (λ p. f p.0 p.1) (enumerate_from n (map h xs))
 from_map f h n [] = refl
 from_map f h n (x ∷ xs) = ap (λ ys. f n (h x) ++ ys) (from_map f h (n + 1) xs)
 
@@ -49,7 +51,8 @@ filter_map_more f xs i x h e = ap (filter_map f) (take-more xs i x h e) ∙ filt
 -- one element more in what is made of each
 pub flat_map_next : {A B : Type 0} (f : A → List B) (xs : List A) (i : ℕ) (x : A) → i < length xs → x ≡ get_or xs i x →
     flat_map f (take (i + 1) xs) ≡ flat_map f (take i xs) ++ f x
-flat_map_next f xs i x h e = ap (flat_map f) (take-more xs i x h e) ∙ flat_map-append f (take i xs) (x ∷ []) ∙ ap (λ l. flat_map f (take i xs) ++ l) (append-nil (f x))
+flat_map_next f xs i x h e = ap (flat_map f) (take-more xs i x h e) ∙ flat_map-append f (take i xs) (x ∷ []) ∙ ap (λ l. flat_map f (take i xs)
+    ++ l) (append-nil (f x))
 
 pub all_taken : {A : Type 0} (xs : List A) (i : ℕ) → length xs ≤ i → take i xs ≡ xs
 all_taken [] zero h = refl

@@ -9,7 +9,8 @@ pub first_of-append : (more : Option Place) (ps qs : List Place) → first_of mo
 first_of-append more [] qs = refl
 first_of-append more (p ∷ ps) qs = ap (λ o. Some (earlier p o)) (first_of-append more ps qs)
 
-kept : (b : Bool) (n : Name) (xs ys : List Name) → map (λ m. m.place) xs ≡ map (λ m. m.place) ys → map (λ m. m.place) (cond b (n ∷ xs) xs) ≡ map (λ m. m.place) (cond b (n ∷ ys) ys)
+kept : (b : Bool) (n : Name) (xs ys : List Name) → map (λ m. m.place) xs ≡ map (λ m. m.place) ys → map (λ m. m.place) (cond b (n
+    ∷ xs) xs) ≡ map (λ m. m.place) (cond b (n ∷ ys) ys)
 kept true n xs ys e = ap (λ l. n.place ∷ l) e
 kept false n xs ys e = e
 

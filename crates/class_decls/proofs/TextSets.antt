@@ -31,4 +31,5 @@ any-map test f (x ∷ xs) = ap (λ b. test (f x) || b) (any-map test f xs)
 
 pub count_alike : {A : Type 0} (f g : A → Bool) → ((x : A) → f x ≡ g x) → (xs : List A) → count_by f xs ≡ count_by g xs
 count_alike f g h [] = refl
-count_alike f g h (x ∷ xs) = sum_by-cons (λ y. cond (f y) 1 0) x xs ∙ ap₂ (λ b n. cond b 1 0 + n) (h x) (count_alike f g h xs) ∙ sym (sum_by-cons (λ y. cond (g y) 1 0) x xs)
+count_alike f g h (x ∷ xs) = sum_by-cons (λ y. cond (f y) 1 0) x xs ∙ ap₂ (λ b n. cond b 1 0 + n) (h x) (count_alike f g h xs)
+    ∙ sym (sum_by-cons (λ y. cond (g y) 1 0) x xs)

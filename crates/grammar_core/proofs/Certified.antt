@@ -56,7 +56,8 @@ module _ (g : Table) (ranks : List ℕ) (seen : List Bool) where
       let s = both ((a && b) && c) d e in
       let t = both (a && b) c s.0 in
       let u = both a b t.0 in
-      record { inside = not_true (outside_by g x) u.0; below = u.1; reads = not_true (empty_body_by seen x) t.1; marked = implied (empty_by g.rules seen x) (is_marked seen p) s.1 }
+      record { inside = not_true (outside_by g x) u.0; below = u.1; reads = not_true (empty_body_by seen x) t.1; marked = implied (empty_by g.rules seen x)
+          (is_marked seen p) s.1 }
 
   rows_at : (xs : List Prod) (i k : ℕ) (x : Prod) → are_certified g ranks seen i xs ≡ true → slice_get xs k ≡ Some x → IsCertifiedAt g ranks seen (i + k) x
   rows_at [] i k x e h = (cc)
@@ -72,7 +73,8 @@ module _ (g : Table) (ranks : List ℕ) (seen : List Bool) where
 
   module _ (all : (p : ℕ) (x : Prod) → slice_get g.prods p ≡ Some x → IsCertifiedAt g ranks seen p x) where
     step_falls : (calls : Bool) (p q : ℕ) → IsIn q (next (graph_of calls g) p) → slice_index ranks q < slice_index ranks p
-    step_falls calls p q i = let s = step_at g calls p q i in let c = all p s.0 s.1 in below_at ranks (slice_index ranks p) (next_prods true g s.0) c.below q (flat_step g calls s.0 q s.2)
+    step_falls calls p q i = let s = step_at g calls p q i in let c = all p s.0 s.1 in below_at ranks (slice_index ranks p) (next_prods true g s.0) c.below q
+        (flat_step g calls s.0 q s.2)
 
     path_falls : (calls : Bool) (p q : ℕ) → Path (graph_of calls g) p q → slice_index ranks q < slice_index ranks p
     path_falls calls p _ (Path.first q e i) = step_falls calls p q e
@@ -80,7 +82,8 @@ module _ (g : Table) (ranks : List ℕ) (seen : List Bool) where
 
     none_unfit : (p : ℕ) → Unfit g p → ⊥
     none_unfit p (Unfit.outside x e o) = let c = all p x e in outside_not g x c.inside o
-    none_unfit p (Unfit.empty_body firsts q e m) = let c = all p (Star firsts q) e in false≢true (sym c.reads ∙ complete g seen (λ r y f. let d = all r y f in d.marked) q m)
+    none_unfit p (Unfit.empty_body firsts q e m) = let c = all p (Star firsts q) e in false≢true (sym c.reads ∙ complete g seen (λ r y f. let d = all r y f
+        in d.marked) q m)
     none_unfit p (Unfit.own_part way) = let f = path_falls false p p way in omega (arith, f)
     none_unfit p (Unfit.own_call r q e f n way) = let l = path_falls true q q way in omega (arith, l)
 
@@ -89,5 +92,6 @@ pub fit_from_certificate : (g : Table) (ranks : List ℕ) (seen : List Bool) →
 fit_from_certificate g ranks seen table e =
     record {
       table = table;
-      fit = none_unfit g ranks seen (λ p x h. let z : 0 + p ≡ p = omega arith in subst (λ (j : ℕ). IsCertifiedAt g ranks seen j x) z (rows_at g ranks seen g.prods 0 p x e h));
+      fit = none_unfit g ranks seen (λ p x h. let z : 0 + p ≡ p = omega arith in subst (λ (j : ℕ). IsCertifiedAt g ranks seen j x) z
+          (rows_at g ranks seen g.prods 0 p x e h));
     }

@@ -17,7 +17,8 @@ then_none (Answer.stuck at n) next h = (cc)
 then_none (Answer.deep at n) next h = (cc)
 then_none (Answer.spent n) next h = refl
 
-pub then_some : (a : Answer) (next : Reading) (to : ℕ) (done : List ParseTree) (P : Answer → Type 0) → outcome_of a ≡ Some (Outcome.ends to done) → ((n : ℕ) → P (next to done n)) → P (then_at a next)
+pub then_some : (a : Answer) (next : Reading) (to : ℕ) (done : List ParseTree) (P : Answer → Type 0) → outcome_of a ≡ Some (Outcome.ends to done) → ((n : ℕ)
+    → P (next to done n)) → P (then_at a next)
 then_some (Answer.ends to' done' n) next to done P h k =
     let e : to ≡ to' = cc in
     let f : done ≡ done' = cc in
@@ -26,7 +27,8 @@ then_some (Answer.stuck at n) next to done P h k = (cc)
 then_some (Answer.deep at n) next to done P h k = (cc)
 then_some (Answer.spent n) next to done P h k = (cc)
 
-then_ends : (a : Answer) (next : Reading) (to : ℕ) (done : List ParseTree) (z : Outcome) → Agrees a (Outcome.ends to done) → ((n : ℕ) → Agrees (next to done n) z) → Agrees (then_at a next) z
+then_ends : (a : Answer) (next : Reading) (to : ℕ) (done : List ParseTree) (z : Outcome) → Agrees a (Outcome.ends to done) → ((n : ℕ)
+    → Agrees (next to done n) z) → Agrees (then_at a next) z
 then_ends a next to done z h k = ⊎_elim (λ e. inl (then_none a next e)) (λ e. then_some a next to done (λ b. Agrees b z) e k) h
 
 pub stop_some : (a : Answer) (next : Reading) (b : Outcome) → Stops b → outcome_of a ≡ Some b → outcome_of (then_at a next) ≡ Some b
@@ -59,7 +61,8 @@ drop_first (x ∷ xs) ys = drop_first xs ys
 closed_behind : (r : ℕ) (done trees : List ParseTree) → closed r (length done) (done ++ trees) ≡ done ++ (node r (row_of trees) ∷ [])
 closed_behind r done trees = rw (take_first done trees, drop_first done trees) refl
 
-pub closed_some : (r : ℕ) (done : List ParseTree) (b : Answer) (a : Outcome) → outcome_of b ≡ Some (before done a) → outcome_of (close r done b) ≡ Some (before done (below_rule r a))
+pub closed_some : (r : ℕ) (done : List ParseTree) (b : Answer) (a : Outcome) → outcome_of b ≡ Some (before done a)
+    → outcome_of (close r done b) ≡ Some (before done (below_rule r a))
 closed_some r done (Answer.ends to l n) (Outcome.ends x trees) h =
     let e : to ≡ x = cc in
     let f : l ≡ done ++ trees = cc in
@@ -84,23 +87,27 @@ closed_agrees : (r : ℕ) (done : List ParseTree) (b : Answer) (a : Outcome) →
 closed_agrees r done b a h = ⊎_elim (λ e. inl (closed_none r done b e)) (λ e. inr (closed_some r done b a e)) h
 
 -- the two forms of a rule's level
-pub at_level : (n v : Bool) (level inner : ℕ) → cond n (cond v (Some (level + 1)) None) (Some level) ≡ Some inner → (f : ℕ → Answer) (other : Answer) → cond n (cond v (f (level + 1)) other) (f level) ≡ f inner
+pub at_level : (n v : Bool) (level inner : ℕ) → cond n (cond v (Some (level + 1)) None) (Some level) ≡ Some inner → (f : ℕ → Answer) (other : Answer)
+    → cond n (cond v (f (level + 1)) other) (f level) ≡ f inner
 at_level true true level inner e f other = let i : level + 1 ≡ inner = cc in ap f i
 at_level true false level inner e f other = (cc)
 at_level false v level inner e f other = let i : level ≡ inner = cc in ap f i
 
-pub at_no_level : (n v : Bool) (level : ℕ) → cond n (cond v (Some (level + 1)) None) (Some level) ≡ None → (f : ℕ → Answer) (other : Answer) → cond n (cond v (f (level + 1)) other) (f level) ≡ other
+pub at_no_level : (n v : Bool) (level : ℕ) → cond n (cond v (Some (level + 1)) None) (Some level) ≡ None → (f : ℕ → Answer) (other : Answer)
+    → cond n (cond v (f (level + 1)) other) (f level) ≡ other
 at_no_level true true level e f other = (cc)
 at_no_level true false level e f other = refl
 at_no_level false v level e f other = (cc)
 
 module _ (g : Table) (ks : List ℕ) where
   mutual
-    pub complete : (p level at : ℕ) (a : Outcome) → Gives g ks p level at a → (h : ℕ) (done : List ParseTree) (n : ℕ) → Agrees (answer g ks h p level at done n) (before done a)
+    pub complete : (p level at : ℕ) (a : Outcome) → Gives g ks p level at a → (h : ℕ) (done : List ParseTree) (n : ℕ)
+        → Agrees (answer g ks h p level at done n) (before done a)
     complete _ _ _ _ (Gives.production p level at x a e of) zero done n = inl refl
     complete _ _ _ _ (Gives.production p level at x a e of) (suc h) done n = rw e (complete_of x level at a of h done (suc n))
 
-    pub complete_of : (x : Prod) (level at : ℕ) (a : Outcome) → GivesProd g ks x level at a → (h : ℕ) (done : List ParseTree) (n : ℕ) → Agrees (of_production g ks (λ q l from so_far m. answer g ks h q l from so_far m) level (Some x) at done n) (before done a)
+    pub complete_of : (x : Prod) (level at : ℕ) (a : Outcome) → GivesProd g ks x level at a → (h : ℕ) (done : List ParseTree) (n : ℕ)
+        → Agrees (of_production g ks (λ q l from so_far m. answer g ks h q l from so_far m) level (Some x) at done n) (before done a)
     complete_of _ _ _ _ (GivesProd.token k level at e) h done n = rw e (inr refl)
     complete_of _ _ _ _ (GivesProd.no_token k level at e) h done n = rw e (inr refl)
     complete_of _ _ _ _ (GivesProd.parts ps level at a all) h done n = complete_all ps level at a all h done n
@@ -108,25 +115,40 @@ module _ (g : Table) (ks : List ℕ) where
     complete_of _ _ _ _ (GivesProd.no_branch bs other level at e) h done n = rw e (inr refl)
     complete_of _ _ _ _ (GivesProd.times firsts q level at a all) h done n = complete_times firsts q level at a all h (suc (length ks - at)) done n
     complete_of _ _ _ _ (GivesProd.rule r rule level inner at a e f of) h done n =
-        rw e (subst (λ (z : Answer). Agrees z (before done (below_rule r a))) (sym (at_level rule.nests (nat_lt level max_level) level inner f (λ l. close r done (answer g ks h rule.to l at done n)) (Answer.deep at n))) (closed_agrees r done (answer g ks h rule.to inner at done n) a (complete rule.to inner at a of h done n)))
+        rw e (subst (λ (z : Answer). Agrees z (before done (below_rule r a))) (sym (at_level rule.nests (nat_lt level max_level) level inner f
+            (λ l. close r done (answer g ks h rule.to l at done n)) (Answer.deep at n))) (closed_agrees r done (answer g ks h rule.to inner at done n) a
+            (complete rule.to inner at a of h done n)))
     complete_of _ _ _ _ (GivesProd.too_deep r rule level at e f) h done n =
-        rw e (inr (ap (λ (z : Answer). outcome_of z) (at_no_level rule.nests (nat_lt level max_level) level f (λ l. close r done (answer g ks h rule.to l at done n)) (Answer.deep at n))))
+        rw e (inr (ap (λ (z : Answer). outcome_of z) (at_no_level rule.nests (nat_lt level max_level) level f (λ l. close r done
+            (answer g ks h rule.to l at done n)) (Answer.deep at n))))
 
-    complete_all : (ps : List ℕ) (level at : ℕ) (a : Outcome) → GivesAll g ks ps level at a → (h : ℕ) (done : List ParseTree) (n : ℕ) → Agrees (in_turn (λ q. answer g ks h q level) ps at done n) (before done a)
+    complete_all : (ps : List ℕ) (level at : ℕ) (a : Outcome) → GivesAll g ks ps level at a → (h : ℕ) (done : List ParseTree) (n : ℕ)
+        → Agrees (in_turn (λ q. answer g ks h q level) ps at done n) (before done a)
     complete_all _ _ _ _ (GivesAll.all_done level at) h done n = inr (ap (λ (l : List ParseTree). Some (Outcome.ends at l)) (sym (append-nil done)))
     complete_all _ _ _ _ (GivesAll.then p ps level at to trees b of all) h done n =
-        then_ends (answer g ks h p level at done n) (λ to more m. in_turn (λ q. answer g ks h q level) ps to more m) to (done ++ trees) (before done (before trees b)) (complete p level at (Outcome.ends to trees) of h done n) (λ m. subst (λ (z : Outcome). Agrees (in_turn (λ q. answer g ks h q level) ps to (done ++ trees) m) z) (before_before done trees b) (complete_all ps level to b all h (done ++ trees) m))
+        then_ends (answer g ks h p level at done n) (λ to more m. in_turn (λ q. answer g ks h q level) ps to more m) to (done
+            ++ trees) (before done (before trees b)) (complete p level at (Outcome.ends to trees) of h done n) (λ m. subst (λ (z : Outcome). Agrees (in_turn
+            (λ q. answer g ks h q level) ps to (done ++ trees) m) z) (before_before done trees b) (complete_all ps level to b all h (done ++ trees) m))
     complete_all _ _ _ _ (GivesAll.stop p ps level at a of s) h done n =
-        subst (λ (z : Outcome). Agrees (then_at (answer g ks h p level at done n) (λ to more m. in_turn (λ q. answer g ks h q level) ps to more m)) z) (sym (before_stop done a s))
-        (then_stops (answer g ks h p level at done n) (λ to more m. in_turn (λ q. answer g ks h q level) ps to more m) a s (subst (λ (z : Outcome). Agrees (answer g ks h p level at done n) z) (before_stop done a s) (complete p level at a of h done n)))
+        subst (λ (z : Outcome). Agrees (then_at (answer g ks h p level at done n) (λ to more m. in_turn (λ q. answer g ks h q level) ps to more m)) z) (sym
+            (before_stop done a s))
+        (then_stops (answer g ks h p level at done n) (λ to more m. in_turn (λ q. answer g ks h q level) ps to more m) a s (subst (λ (z : Outcome). Agrees
+            (answer g ks h p level at done n) z) (before_stop done a s) (complete p level at a of h done n)))
 
-    complete_times : (firsts : List ℕ) (q level at : ℕ) (a : Outcome) → GivesTimes g ks firsts q level at a → (h k : ℕ) (done : List ParseTree) (n : ℕ) → Agrees (again ks firsts (λ from so_far m. answer g ks h q level from so_far m) k at done n) (before done a)
+    complete_times : (firsts : List ℕ) (q level at : ℕ) (a : Outcome) → GivesTimes g ks firsts q level at a → (h k : ℕ) (done : List ParseTree) (n : ℕ)
+        → Agrees (again ks firsts (λ from so_far m. answer g ks h q level from so_far m) k at done n) (before done a)
     complete_times _ _ _ _ _ (GivesTimes.no_more firsts q level at e) h zero done n = inl refl
     complete_times _ _ _ _ _ (GivesTimes.once_more firsts q level at to trees b e of all) h zero done n = inl refl
     complete_times _ _ _ _ _ (GivesTimes.stop_in firsts q level at a e of s) h zero done n = inl refl
-    complete_times _ _ _ _ _ (GivesTimes.no_more firsts q level at e) h (suc k) done n = rw e (inr (ap (λ (l : List ParseTree). Some (Outcome.ends at l)) (sym (append-nil done))))
+    complete_times _ _ _ _ _ (GivesTimes.no_more firsts q level at e) h (suc k) done n = rw e (inr (ap (λ (l : List ParseTree). Some (Outcome.ends at l)) (sym
+        (append-nil done))))
     complete_times _ _ _ _ _ (GivesTimes.once_more firsts q level at to trees b e of all) h (suc k) done n =
-        rw e (then_ends (answer g ks h q level at done n) (λ to more m. again ks firsts (λ from so_far i. answer g ks h q level from so_far i) k to more (suc m)) to (done ++ trees) (before done (before trees b)) (complete q level at (Outcome.ends to trees) of h done n) (λ m. subst (λ (z : Outcome). Agrees (again ks firsts (λ from so_far i. answer g ks h q level from so_far i) k to (done ++ trees) (suc m)) z) (before_before done trees b) (complete_times firsts q level to b all h k (done ++ trees) (suc m))))
+        rw e (then_ends (answer g ks h q level at done n) (λ to more m. again ks firsts (λ from so_far i. answer g ks h q level from so_far i) k to more
+            (suc m)) to (done ++ trees) (before done (before trees b)) (complete q level at (Outcome.ends to trees) of h done n) (λ m. subst (λ
+            (z : Outcome). Agrees (again ks firsts (λ from so_far i. answer g ks h q level from so_far i) k to (done
+            ++ trees) (suc m)) z) (before_before done trees b) (complete_times firsts q level to b all h k (done ++ trees) (suc m))))
     complete_times _ _ _ _ _ (GivesTimes.stop_in firsts q level at a e of s) h (suc k) done n =
-        rw e (subst (λ (z : Outcome). Agrees (then_at (answer g ks h q level at done n) (λ to more m. again ks firsts (λ from so_far i. answer g ks h q level from so_far i) k to more (suc m))) z) (sym (before_stop done a s))
-        (then_stops (answer g ks h q level at done n) (λ to more m. again ks firsts (λ from so_far i. answer g ks h q level from so_far i) k to more (suc m)) a s (subst (λ (z : Outcome). Agrees (answer g ks h q level at done n) z) (before_stop done a s) (complete q level at a of h done n))))
+        rw e (subst (λ (z : Outcome). Agrees (then_at (answer g ks h q level at done n) (λ to more m. again ks firsts
+            (λ from so_far i. answer g ks h q level from so_far i) k to more (suc m))) z) (sym (before_stop done a s))
+        (then_stops (answer g ks h q level at done n) (λ to more m. again ks firsts (λ from so_far i. answer g ks h q level from so_far i) k to more
+            (suc m)) a s (subst (λ (z : Outcome). Agrees (answer g ks h q level at done n) z) (before_stop done a s) (complete q level at a of h done n))))

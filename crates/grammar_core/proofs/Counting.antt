@@ -41,6 +41,8 @@ not_true true h = absurd (h refl)
 not_true false h = refl
 
 -- the ranks of a graph without cycles
-pub rank_falls : (graph : List (List ℕ)) (p q : ℕ) (row_p row_q : List Bool) → IsRow graph p row_p → IsRow graph q row_q → IsIn q (next graph p) → q < length graph → (Path graph q q → ⊥) → marks row_q < marks row_p
+pub rank_falls : (graph : List (List ℕ)) (p q : ℕ) (row_p row_q : List Bool) → IsRow graph p row_p → IsRow graph q row_q → IsIn q (next graph p)
+    → q < length graph → (Path graph q q → ⊥) → marks row_q < marks row_p
 rank_falls graph p q row_p row_q rp rq edge inside no_cycle =
-    marks_less row_q row_p (rq.long ∙ sym rp.long) (λ r m. rp.complete r (after graph p q edge inside r (rq.sound r m))) q (rp.complete q (Path.first q edge inside)) (not_true (is_marked row_q q) (λ m. no_cycle (rq.sound q m)))
+    marks_less row_q row_p (rq.long ∙ sym rp.long) (λ r m. rp.complete r (after graph p q edge inside r (rq.sound r m))) q (rp.complete q
+        (Path.first q edge inside)) (not_true (is_marked row_q q) (λ m. no_cycle (rq.sound q m)))

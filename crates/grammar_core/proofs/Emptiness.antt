@@ -21,7 +21,8 @@ step_length false seen i = refl
 module _ (rules : List ℕ) where
   sweep_keeps : (xs : List Prod) (i : ℕ) (seen : List Bool) (r : ℕ) → is_marked seen r ≡ true → is_marked (empty_sweep rules seen i xs) r ≡ true
   sweep_keeps [] i seen r e = e
-  sweep_keeps (x ∷ xs) i seen r e = sweep_keeps xs (i + 1) (cond (empty_by rules seen x) (set_mark seen i) seen) r (step_keeps (empty_by rules seen x) seen i r e)
+  sweep_keeps (x ∷ xs) i seen r e = sweep_keeps xs (i + 1) (cond (empty_by rules seen x) (set_mark seen i) seen) r (step_keeps
+      (empty_by rules seen x) seen i r e)
 
   pub sweep_length : (xs : List Prod) (i : ℕ) (seen : List Bool) → length (empty_sweep rules seen i xs) ≡ length seen
   sweep_length [] i seen = refl
@@ -48,7 +49,8 @@ module _ (a b : List Bool) (w : Within a b) where
       keep true r e = refl
       keep false r e = e
 
-      by_first : (v : Bool) → is_marked a q ≡ v → cond v true (any_marked a qs) ≡ true → (any_marked a qs ≡ true → any_marked b qs ≡ true) → cond (is_marked b q) true (any_marked b qs) ≡ true
+      by_first : (v : Bool) → is_marked a q ≡ v → cond v true (any_marked a qs) ≡ true → (any_marked a qs ≡ true → any_marked b qs ≡ true)
+          → cond (is_marked b q) true (any_marked b qs) ≡ true
       by_first true i e rest = rw (w q i) refl
       by_first false i e rest = keep (is_marked b q) (any_marked b qs) (rest e)
 
@@ -75,7 +77,8 @@ module _ (g : Table) where
   any_sound seen s [] e = (cc)
   any_sound seen s (q ∷ qs) e = by_first (is_marked seen q) refl e (any_sound seen s qs)
     where
-      by_first : (v : Bool) → is_marked seen q ≡ v → cond v true (any_marked seen qs) ≡ true → (any_marked seen qs ≡ true → (r : ℕ) × IsIn r qs × MayBeEmpty g r) → (r : ℕ) × IsIn r (q ∷ qs) × MayBeEmpty g r
+      by_first : (v : Bool) → is_marked seen q ≡ v → cond v true (any_marked seen qs) ≡ true → (any_marked seen qs ≡ true
+          → (r : ℕ) × IsIn r qs × MayBeEmpty g r) → (r : ℕ) × IsIn r (q ∷ qs) × MayBeEmpty g r
       by_first true i e rest = (q, inl refl, s q i)
       by_first false i e rest = let t = rest e in (t.0, inr t.1, t.2)
 
@@ -90,11 +93,14 @@ module _ (g : Table) where
   empty_sound seen s (Case bs other) e = let t = any_sound seen s (choices bs other) e in IsEmptyProd.branch bs other t.0 t.1 t.2
   empty_sound seen s (Star firsts q) e = IsEmptyProd.no_times firsts q
 
-  step_sound : (seen : List Bool) (i : ℕ) (x : Prod) → slice_get g.prods i ≡ Some x → Sound seen → (v : Bool) → empty_by g.rules seen x ≡ v → Sound (cond v (set_mark seen i) seen)
+  step_sound : (seen : List Bool) (i : ℕ) (x : Prod) → slice_get g.prods i ≡ Some x → Sound seen → (v : Bool) → empty_by g.rules seen x ≡ v
+      → Sound (cond v (set_mark seen i) seen)
   step_sound seen i x e s false t p m = s p m
-  step_sound seen i x e s true t p m = ⊎_elim (λ old. s p old) (λ new. subst (λ (q : ℕ). MayBeEmpty g q) (sym new.0) (MayBeEmpty.production i x e (empty_sound seen s x t))) (set_only seen i p m)
+  step_sound seen i x e s true t p m = ⊎_elim (λ old. s p old) (λ new. subst (λ (q : ℕ). MayBeEmpty g q) (sym new.0) (MayBeEmpty.production i x e
+      (empty_sound seen s x t))) (set_only seen i p m)
 
-  sweep_sound : (xs : List Prod) (i : ℕ) (seen : List Bool) → ((k : ℕ) → k < length xs → slice_get xs k ≡ slice_get g.prods (i + k)) → Sound seen → Sound (empty_sweep g.rules seen i xs)
+  sweep_sound : (xs : List Prod) (i : ℕ) (seen : List Bool) → ((k : ℕ) → k < length xs → slice_get xs k ≡ slice_get g.prods (i + k)) → Sound seen
+      → Sound (empty_sweep g.rules seen i xs)
   sweep_sound [] i seen same s = s
   sweep_sound (x ∷ xs) i seen same s =
       let e = sym (same zero (omega arith)) in
@@ -110,7 +116,8 @@ module _ (g : Table) where
   none_sound p m = absurd (none_marked (length g.prods) p m)
 
   -- what may derive nothing by the marks is marked by the sweep
-  sweep_marks : (xs : List Prod) (i : ℕ) (seen : List Bool) (k : ℕ) (x : Prod) → slice_get xs k ≡ Some x → empty_by g.rules seen x ≡ true → i + k < length seen → is_marked (empty_sweep g.rules seen i xs) (i + k) ≡ true
+  sweep_marks : (xs : List Prod) (i : ℕ) (seen : List Bool) (k : ℕ) (x : Prod) → slice_get xs k ≡ Some x → empty_by g.rules seen x ≡ true → i + k < length seen
+      → is_marked (empty_sweep g.rules seen i xs) (i + k) ≡ true
   sweep_marks [] i seen k x e m inside = (cc)
   sweep_marks (y ∷ xs) i seen zero x e m inside =
       let same : y ≡ x = cc in
@@ -122,19 +129,23 @@ module _ (g : Table) where
       let n : (i + 1) + k ≡ i + suc k = omega arith in
       let next : List Bool = cond (empty_by g.rules seen y) (set_mark seen i) seen in
       subst (λ (j : ℕ). is_marked (empty_sweep g.rules next (i + 1) xs) j ≡ true) n
-      (sweep_marks xs (i + 1) next k x e (empty_within seen next (λ q. step_keeps (empty_by g.rules seen y) seen i q) g.rules x m) (omega (arith, inside, step_length (empty_by g.rules seen y) seen i)))
+      (sweep_marks xs (i + 1) next k x e (empty_within seen next (λ q. step_keeps (empty_by g.rules seen y) seen i q) g.rules x m) (omega
+          (arith, inside, step_length (empty_by g.rules seen y) seen i)))
 
   -- a sweep that marks no more has marked each production whose parts say so
-  marked_at : (seen : List Bool) → length seen ≡ length g.prods → empty_sweep g.rules seen 0 g.prods ≡ seen → (p : ℕ) (x : Prod) → slice_get g.prods p ≡ Some x → empty_by g.rules seen x ≡ true → is_marked seen p ≡ true
+  marked_at : (seen : List Bool) → length seen ≡ length g.prods → empty_sweep g.rules seen 0 g.prods ≡ seen → (p : ℕ) (x : Prod) → slice_get g.prods p ≡ Some x
+      → empty_by g.rules seen x ≡ true → is_marked seen p ≡ true
   marked_at seen long same p x e m =
       let z : 0 + p ≡ p = omega arith in
       let inside = slice_get_within g.prods p x e in
-      subst (λ (l : List Bool). is_marked l p ≡ true) same (subst (λ (j : ℕ). is_marked (empty_sweep g.rules seen 0 g.prods) j ≡ true) z (sweep_marks g.prods 0 seen p x e m (omega (arith, inside, long))))
+      subst (λ (l : List Bool). is_marked l p ≡ true) same (subst (λ (j : ℕ). is_marked (empty_sweep g.rules seen 0 g.prods) j ≡ true) z
+          (sweep_marks g.prods 0 seen p x e m (omega (arith, inside, long))))
 
   module _ (seen : List Bool) (closed : (p : ℕ) (x : Prod) → slice_get g.prods p ≡ Some x → empty_by g.rules seen x ≡ true → is_marked seen p ≡ true) where
     any_of : (q : ℕ) (ps : List ℕ) → IsIn q ps → is_marked seen q ≡ true → any_marked seen ps ≡ true
     any_of q [] i m = absurd i
-    any_of q (r ∷ rs) i m = ⊎_elim (λ e. rw (subst (λ (x : ℕ). is_marked seen x ≡ true) e m) refl) (λ j. keep (is_marked seen r) (any_marked seen rs) (any_of q rs j m)) i
+    any_of q (r ∷ rs) i m = ⊎_elim (λ e. rw (subst (λ (x : ℕ). is_marked seen x ≡ true) e m) refl) (λ j. keep (is_marked seen r) (any_marked seen rs)
+        (any_of q rs j m)) i
       where
         keep : (v s : Bool) → s ≡ true → cond v true s ≡ true
         keep true s e = refl

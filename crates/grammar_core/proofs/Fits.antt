@@ -46,7 +46,8 @@ pub all_inside_at : (n : ℕ) (rules : List ℕ) → IsTrue (all_inside n rules)
 all_inside_at n [] h r q e = (cc)
 all_inside_at n (x ∷ xs) h r q e = by_test (all_inside_at n xs) (nat_lt x n) refl h r e
   where
-    by_test : (IsTrue (all_inside n xs) → (r q : ℕ) → slice_get xs r ≡ Some q → q < n) → (v : Bool) → nat_lt x n ≡ v → IsTrue (cond v (all_inside n xs) false) → (r : ℕ) → slice_get (x ∷ xs) r ≡ Some q → q < n
+    by_test : (IsTrue (all_inside n xs) → (r q : ℕ) → slice_get xs r ≡ Some q → q < n) → (v : Bool) → nat_lt x n ≡ v → IsTrue (cond v (all_inside n xs) false)
+        → (r : ℕ) → slice_get (x ∷ xs) r ≡ Some q → q < n
     by_test rest true t h zero e = let same : x ≡ q = cc in subst (λ (y : ℕ). y < n) same (ltb-true x n t)
     by_test rest true t h (suc r) e = rest h r q e
     by_test rest false t h r e = absurd (false≢true h)
@@ -64,7 +65,8 @@ branch_in ks at q [] None e = (cc)
 branch_in ks at q [] (Some x) e = let same : x ≡ q = cc in inl (sym same)
 branch_in ks at q (b ∷ bs) o e = by_begins (branch_in ks at q bs o) (begins ks at b.firsts) e
   where
-    by_begins : (branch_of ks at bs o ≡ Some q → IsIn q (choices bs o)) → (v : Bool) → cond v (Some b.to) (branch_of ks at bs o) ≡ Some q → IsIn q (b.to ∷ choices bs o)
+    by_begins : (branch_of ks at bs o ≡ Some q → IsIn q (choices bs o)) → (v : Bool) → cond v (Some b.to) (branch_of ks at bs o) ≡ Some q → IsIn q (b.to
+        ∷ choices bs o)
     by_begins rest true e = let same : b.to ≡ q = cc in inl (sym same)
     by_begins rest false e = inr (rest e)
 
@@ -89,7 +91,8 @@ module _ (g : Table) (fit : IsFit g) where
   rule_there r h =
       ⊎_elim
       (λ to. ⊎_elim
-      (λ n. (record { to = to.0; nests = n.0 }, ap (λ (o : Option ℕ). rule_from o (slice_get g.nests r)) to.2 ∙ ap (λ (o : Option Bool). rule_from (Some to.0) o) n.2, all_inside_at (length g.prods) g.rules fit.table.inside r to.0 to.2))
+      (λ n. (record { to = to.0; nests = n.0 }, ap (λ (o : Option ℕ). rule_from o (slice_get g.nests r)) to.2
+          ∙ ap (λ (o : Option Bool). rule_from (Some to.0) o) n.2, all_inside_at (length g.prods) g.rules fit.table.inside r to.0 to.2))
       (λ past. absurd (omega (arith, past.0, h, fit.table.paired))) (slice_get_cases g.nests r).1)
       (λ past. absurd (omega (arith, past.0, h))) (slice_get_cases g.rules r).1
 
@@ -103,7 +106,8 @@ module _ (g : Table) (fit : IsFit g) where
   all_below p [] h = tt
   all_below p (q ∷ qs) h = (h q (inl refl), all_below p qs (λ r i. h r (inr i)))
 
-  rule_below : (p r : ℕ) → slice_get g.prods p ≡ Some (Call r) → (rule : Rule) → rule_at g r ≡ Some rule → rule.to < length g.prods → (n : Bool) → rule.nests ≡ n → NextFits g p rule.to n
+  rule_below : (p r : ℕ) → slice_get g.prods p ≡ Some (Call r) → (rule : Rule) → rule_at g r ≡ Some rule → rule.to < length g.prods → (n : Bool)
+      → rule.nests ≡ n → NextFits g p rule.to n
   rule_below p r is rule e inside true t = inside
   rule_below p r is rule e inside false t =
       let one : unnested (rule_at g r) ≡ rule.to ∷ [] = ap (λ (o : Option Rule). unnested o) e ∙ ap (λ (n : Bool). cond n [] (rule.to ∷ [])) t in
@@ -128,4 +132,5 @@ module _ (g : Table) (fit : IsFit g) where
   fits p (Star firsts q) is = (below_part p (Star firsts q) is q (inl refl) (inl refl), λ e. fit.fit p (Unfit.empty_body firsts q is e))
 
   pub fits_at : (p : ℕ) → p < length g.prods → Fits g p (slice_get g.prods p)
-  fits_at p h = ⊎_elim (λ some. subst (λ (o : Option Prod). Fits g p o) (sym some.2) (fits p some.0 some.2)) (λ past. absurd (omega (arith, past.0, h))) (slice_get_cases g.prods p).1
+  fits_at p h = ⊎_elim (λ some. subst (λ (o : Option Prod). Fits g p o) (sym some.2) (fits p some.0 some.2)) (λ past. absurd (omega (arith, past.0, h)))
+      (slice_get_cases g.prods p).1

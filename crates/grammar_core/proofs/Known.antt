@@ -30,7 +30,8 @@ moved_some E at to l (Answer.spent n) e m = (cc)
 before_more : (done trees : List ParseTree) (r : Outcome) (z : Option Outcome) → z ≡ Some (before (done ++ trees) r) → z ≡ Some (before done (before trees r))
 before_more done trees r z e = e ∙ ap (λ (x : Outcome). Some x) (before_before done trees r)
 
-module _ (g : Table) (ks : List ℕ) (h : ℕ) (p level : ℕ) (known : (q l : ℕ) → q < length g.prods → height g q l < height g p level → (at : ℕ) → Known (Gives g ks q l at) (λ done n. answer g ks h q l at done n)) where
+module _ (g : Table) (ks : List ℕ) (h : ℕ) (p level : ℕ) (known : (q l : ℕ) → q < length g.prods → height g q l < height g p level → (at : ℕ)
+    → Known (Gives g ks q l at) (λ done n. answer g ks h q l at done n)) where
   one_known : (q : ℕ) → IsBelow g p q → (at : ℕ) → Known (Gives g ks q level at) (λ done n. answer g ks h q level at done n)
   one_known q b at = known q level b.inside (below g p q level b) at
 
@@ -44,12 +45,17 @@ module _ (g : Table) (ks : List ℕ) (h : ℕ) (p level : ℕ) (known : (q l : �
   abbrev All : List ℕ → ℕ → Type 0
   All ps at = Known (GivesAll g ks ps level at) (λ done n. in_turn (λ q. answer g ks h q level) ps at done n)
 
-  then_known : (q : ℕ) (qs : List ℕ) (at : ℕ) → ((to : ℕ) → All qs to) → (a : Outcome) → Gives g ks q level at a → ((done : List ParseTree) (n : ℕ) → outcome_of (answer g ks h q level at done n) ≡ Some (before done a)) → All (q ∷ qs) at
+  then_known : (q : ℕ) (qs : List ℕ) (at : ℕ) → ((to : ℕ) → All qs to) → (a : Outcome) → Gives g ks q level at a → ((done : List ParseTree) (n : ℕ)
+      → outcome_of (answer g ks h q level at done n) ≡ Some (before done a)) → All (q ∷ qs) at
   then_known q qs at rest (Outcome.ends to trees) gives is =
       let r = rest to in
-      (before trees r.0, GivesAll.then q qs level at to trees r.0 gives r.1, λ done n. then_some (answer g ks h q level at done n) (λ to more m. in_turn (λ x. answer g ks h x level) qs to more m) to (done ++ trees) (λ b. outcome_of b ≡ Some (before done (before trees r.0))) (is done n) (λ m. before_more done trees r.0 (outcome_of (in_turn (λ x. answer g ks h x level) qs to (done ++ trees) m)) (r.2 (done ++ trees) m)))
-  then_known q qs at rest (Outcome.stuck x) gives is = (Outcome.stuck x, GivesAll.stop q qs level at (Outcome.stuck x) gives tt, λ done n. stop_some (answer g ks h q level at done n) (λ to more m. in_turn (λ x. answer g ks h x level) qs to more m) (Outcome.stuck x) tt (is done n))
-  then_known q qs at rest (Outcome.deep x) gives is = (Outcome.deep x, GivesAll.stop q qs level at (Outcome.deep x) gives tt, λ done n. stop_some (answer g ks h q level at done n) (λ to more m. in_turn (λ x. answer g ks h x level) qs to more m) (Outcome.deep x) tt (is done n))
+      (before trees r.0, GivesAll.then q qs level at to trees r.0 gives r.1, λ done n. then_some (answer g ks h q level at done n) (λ to more m. in_turn
+          (λ x. answer g ks h x level) qs to more m) to (done ++ trees) (λ b. outcome_of b ≡ Some (before done (before trees r.0))) (is done n)
+          (λ m. before_more done trees r.0 (outcome_of (in_turn (λ x. answer g ks h x level) qs to (done ++ trees) m)) (r.2 (done ++ trees) m)))
+  then_known q qs at rest (Outcome.stuck x) gives is = (Outcome.stuck x, GivesAll.stop q qs level at (Outcome.stuck x) gives tt, λ done n. stop_some
+      (answer g ks h q level at done n) (λ to more m. in_turn (λ x. answer g ks h x level) qs to more m) (Outcome.stuck x) tt (is done n))
+  then_known q qs at rest (Outcome.deep x) gives is = (Outcome.deep x, GivesAll.stop q qs level at (Outcome.deep x) gives tt, λ done n. stop_some
+      (answer g ks h q level at done n) (λ to more m. in_turn (λ x. answer g ks h x level) qs to more m) (Outcome.deep x) tt (is done n))
 
   all_known : (ps : List ℕ) → AllBelow g p ps → (at : ℕ) → All ps at
   all_known [] b at = (Outcome.ends at [], GivesAll.all_done level at, λ done n. ap (λ (l : List ParseTree). Some (Outcome.ends at l)) (sym (append-nil done)))
@@ -66,18 +72,28 @@ module _ (g : Table) (ks : List ℕ) (h : ℕ) (p level : ℕ) (known : (q l : �
     abbrev Rest : ℕ → Type 0
     Rest k = (to : ℕ) → length ks - to < k → Times firsts q k to
 
-    more_known : (k at : ℕ) → length ks - at < suc k → Rest k → begins ks at firsts ≡ true → (a : Outcome) → Gives g ks q level at a → ((done : List ParseTree) (n : ℕ) → outcome_of (answer g ks h q level at done n) ≡ Some (before done a)) → Times firsts q (suc k) at
+    more_known : (k at : ℕ) → length ks - at < suc k → Rest k → begins ks at firsts ≡ true → (a : Outcome) → Gives g ks q level at a
+        → ((done : List ParseTree) (n : ℕ) → outcome_of (answer g ks h q level at done n) ≡ Some (before done a)) → Times firsts q (suc k) at
     more_known k at few rest e (Outcome.ends to trees) gives is =
-        let further : at < to = moves_on (MayBeEmpty g q) at to never (moved_some (MayBeEmpty g q) at to trees (answer g ks h q level at [] 0) (is [] 0) (moved g ks h q level at [] 0)) in
+        let further : at < to = moves_on (MayBeEmpty g q) at to never (moved_some (MayBeEmpty g q) at to trees (answer g ks h q level at [] 0) (is [] 0)
+            (moved g ks h q level at [] 0)) in
         let inside = begins_inside ks at firsts e in
         let r = rest to (omega (arith, further, inside)) in
-        (before trees r.0, GivesTimes.once_more firsts q level at to trees r.0 e gives r.1, λ done n. rw e (then_some (answer g ks h q level at done n) (λ to more m. again ks firsts (λ from so_far i. answer g ks h q level from so_far i) k to more (suc m)) to (done ++ trees) (λ b. outcome_of b ≡ Some (before done (before trees r.0))) (is done n) (λ m. before_more done trees r.0 (outcome_of (again ks firsts (λ from so_far i. answer g ks h q level from so_far i) k to (done ++ trees) (suc m))) (r.2 (done ++ trees) (suc m)))))
-    more_known k at few rest e (Outcome.stuck x) gives is = (Outcome.stuck x, GivesTimes.stop_in firsts q level at (Outcome.stuck x) e gives tt, λ done n. rw e (stop_some (answer g ks h q level at done n) (λ to more m. again ks firsts (λ from so_far i. answer g ks h q level from so_far i) k to more (suc m)) (Outcome.stuck x) tt (is done n)))
-    more_known k at few rest e (Outcome.deep x) gives is = (Outcome.deep x, GivesTimes.stop_in firsts q level at (Outcome.deep x) e gives tt, λ done n. rw e (stop_some (answer g ks h q level at done n) (λ to more m. again ks firsts (λ from so_far i. answer g ks h q level from so_far i) k to more (suc m)) (Outcome.deep x) tt (is done n)))
+        (before trees r.0, GivesTimes.once_more firsts q level at to trees r.0 e gives r.1, λ done n. rw e (then_some (answer g ks h q level at done n)
+            (λ to more m. again ks firsts (λ from so_far i. answer g ks h q level from so_far i) k to more (suc m)) to (done
+            ++ trees) (λ b. outcome_of b ≡ Some (before done (before trees r.0))) (is done n) (λ m. before_more done trees r.0 (outcome_of (again ks firsts
+            (λ from so_far i. answer g ks h q level from so_far i) k to (done ++ trees) (suc m))) (r.2 (done ++ trees) (suc m)))))
+    more_known k at few rest e (Outcome.stuck x) gives is = (Outcome.stuck x, GivesTimes.stop_in firsts q level at (Outcome.stuck x) e gives tt, λ done n. rw e
+        (stop_some (answer g ks h q level at done n) (λ to more m. again ks firsts (λ from so_far i. answer g ks h q level from so_far i) k to more (suc m))
+        (Outcome.stuck x) tt (is done n)))
+    more_known k at few rest e (Outcome.deep x) gives is = (Outcome.deep x, GivesTimes.stop_in firsts q level at (Outcome.deep x) e gives tt, λ done n. rw e
+        (stop_some (answer g ks h q level at done n) (λ to more m. again ks firsts (λ from so_far i. answer g ks h q level from so_far i) k to more (suc m))
+        (Outcome.deep x) tt (is done n)))
 
     times_by : (k at : ℕ) → length ks - at < suc k → Rest k → (v : Bool) → begins ks at firsts ≡ v → Times firsts q (suc k) at
     times_by k at few rest true e = let o = one_known q b at in more_known k at few rest e o.0 o.1 o.2
-    times_by k at few rest false e = (Outcome.ends at [], GivesTimes.no_more firsts q level at e, λ done n. rw e (ap (λ (l : List ParseTree). Some (Outcome.ends at l)) (sym (append-nil done))))
+    times_by k at few rest false e = (Outcome.ends at [], GivesTimes.no_more firsts q level at e, λ done n. rw e (ap (λ (l : List ParseTree). Some
+        (Outcome.ends at l)) (sym (append-nil done))))
 
     times_known : (k at : ℕ) → length ks - at < k → Times firsts q k at
     times_known zero at few = absurd (omega arith)
@@ -88,15 +104,21 @@ module _ (g : Table) (ks : List ℕ) (one : ℕ → ℕ → Reading) (level : �
   abbrev pub OfCall : Type 0
   OfCall = Known (GivesProd g ks (Call r) level at) (λ done n. of_production g ks one level (Some (Call r)) at done n)
 
-  inner_known : (inner : ℕ) → level_in rule level ≡ Some inner → ((done : List ParseTree) (n : ℕ) → of_rule one r level (Some rule) at done n ≡ close r done (one rule.to inner at done n)) → Known (Gives g ks rule.to inner at) (λ done n. one rule.to inner at done n) → OfCall
-  inner_known inner f is k = (below_rule r k.0, GivesProd.rule r rule level inner at k.0 e f k.1, λ done n. rw e (ap (λ (z : Answer). outcome_of z) (is done n) ∙ closed_some r done (one rule.to inner at done n) k.0 (k.2 done n)))
+  inner_known : (inner : ℕ) → level_in rule level ≡ Some inner → ((done : List ParseTree) (n : ℕ)
+      → of_rule one r level (Some rule) at done n ≡ close r done (one rule.to inner at done n))
+      → Known (Gives g ks rule.to inner at) (λ done n. one rule.to inner at done n) → OfCall
+  inner_known inner f is k = (below_rule r k.0, GivesProd.rule r rule level inner at k.0 e f k.1, λ done n. rw e (ap (λ (z : Answer). outcome_of z) (is done n)
+      ∙ closed_some r done (one rule.to inner at done n) k.0 (k.2 done n)))
 
-  pub call_known : (n v : Bool) → rule.nests ≡ n → nat_lt level max_level ≡ v → (n ≡ true → v ≡ true → Known (Gives g ks rule.to (level + 1) at) (λ done m. one rule.to (level + 1) at done m)) → (n ≡ false → Known (Gives g ks rule.to level at) (λ done m. one rule.to level at done m)) → OfCall
+  pub call_known : (n v : Bool) → rule.nests ≡ n → nat_lt level max_level ≡ v → (n ≡ true → v ≡ true
+      → Known (Gives g ks rule.to (level + 1) at) (λ done m. one rule.to (level + 1) at done m)) → (n ≡ false
+      → Known (Gives g ks rule.to level at) (λ done m. one rule.to level at done m)) → OfCall
   call_known true true i j nest flat = inner_known (level + 1) (rw (i, j) refl) (λ done n. rw (i, j) refl) (nest refl refl)
   call_known true false i j nest flat = (Outcome.deep at, GivesProd.too_deep r rule level at e (rw (i, j) refl), λ done n. rw (e, i, j) refl)
   call_known false v i j nest flat = inner_known level (rw i refl) (λ done n. rw i refl) (flat refl)
 
-module _ (g : Table) (ks : List ℕ) (h : ℕ) (p level : ℕ) (known : (q l : ℕ) → q < length g.prods → height g q l < height g p level → (at : ℕ) → Known (Gives g ks q l at) (λ done n. answer g ks h q l at done n)) where
+module _ (g : Table) (ks : List ℕ) (h : ℕ) (p level : ℕ) (known : (q l : ℕ) → q < length g.prods → height g q l < height g p level → (at : ℕ)
+    → Known (Gives g ks q l at) (λ done n. answer g ks h q l at done n)) where
   rule_known : (r at : ℕ) (o : Option Rule) → rule_at g r ≡ o → RuleFits g p o → Of g ks h p level known (Call r) at
   rule_known r at None e fits = absurd fits
   rule_known r at (Some rule) e fits =
@@ -108,10 +130,13 @@ module _ (g : Table) (ks : List ℕ) (h : ℕ) (p level : ℕ) (known : (q l : �
   production_known (Tok k) fits at = token_known g ks h p level known k at (next_is ks at k) refl
   production_known (Call r) fits at = rule_known r at (rule_at g r) refl fits
   production_known (Seq ps) fits at = let k = all_known g ks h p level known ps fits at in (k.0, GivesProd.parts ps level at k.0 k.1, k.2)
-  production_known (Case bs other) fits at = chosen_known g ks h p level known bs other at (branch_of ks at bs other) refl (branch_below g ks p at bs other fits)
-  production_known (Star firsts q) fits at = let k = times_known g ks h p level known firsts q fits.0 fits.1 (suc (length ks - at)) at (omega arith) in (k.0, GivesProd.times firsts q level at k.0 k.1, k.2)
+  production_known (Case bs other) fits at = chosen_known g ks h p level known bs other at (branch_of ks at bs other) refl
+      (branch_below g ks p at bs other fits)
+  production_known (Star firsts q) fits at = let k = times_known g ks h p level known firsts q fits.0 fits.1 (suc (length ks - at)) at (omega arith)
+      in (k.0, GivesProd.times firsts q level at k.0 k.1, k.2)
 
-  place_known : (at : ℕ) (o : Option Prod) → slice_get g.prods p ≡ o → Fits g p o → Known (Gives g ks p level at) (λ done n. answer g ks (suc h) p level at done n)
+  place_known : (at : ℕ) (o : Option Prod) → slice_get g.prods p ≡ o → Fits g p o → Known (Gives g ks p level at) (λ done n. answer g ks
+      (suc h) p level at done n)
   place_known at None e fits = absurd fits
   place_known at (Some x) e fits = let k = production_known x fits at in (k.0, Gives.production p level at x k.0 e k.1, λ done n. rw e (k.2 done (suc n)))
 
@@ -124,7 +149,8 @@ pub known_at : (R : Outcome → Type 0) (f : List ParseTree → ℕ → Answer) 
 known_at R f k n = k.2 [] n ∙ ap (λ (x : Outcome). Some x) (before_none k.0)
 
 -- what is computed is not spent, and what agrees with it is what is known
-pub known_only : (R : Outcome → Type 0) (f : List ParseTree → ℕ → Answer) (k : Known R f) (a : Outcome) (z : Option Outcome) → z ≡ outcome_of (f [] 0) → (z ≡ None → ⊥) × (z ≡ Some (before [] a) → k.0 ≡ a)
+pub known_only : (R : Outcome → Type 0) (f : List ParseTree → ℕ → Answer) (k : Known R f) (a : Outcome) (z : Option Outcome) → z ≡ outcome_of (f [] 0)
+    → (z ≡ None → ⊥) × (z ≡ Some (before [] a) → k.0 ≡ a)
 known_only R f k a z s =
     let e = known_at R f k 0 in
     let b = before_none a in
@@ -133,7 +159,8 @@ known_only R f k a z s =
 module _ (g : Table) (fit : IsFit g) (ks : List ℕ) where
   known : (h p level : ℕ) → p < length g.prods → height g p level < h → (at : ℕ) → Known (Gives g ks p level at) (λ done n. answer g ks h p level at done n)
   known zero p level inside high at = absurd (omega arith)
-  known (suc h) p level inside high at = place_known g ks h p level (λ q l in_q falls. known h q l in_q (omega arith)) at (slice_get g.prods p) refl (fits_at g fit p inside)
+  known (suc h) p level inside high at = place_known g ks h p level (λ q l in_q falls. known h q l in_q (omega arith)) at (slice_get g.prods p) refl
+      (fits_at g fit p inside)
 
   pub whole_known : (p level at : ℕ) → p < length g.prods → Known (Gives g ks p level at) (λ done n. whole g ks p level at done n)
   unfolding whole
@@ -146,11 +173,13 @@ module _ (g : Table) (fit : IsFit g) (ks : List ℕ) where
       record {
         it = k.0;
         gives = k.1;
-        only = λ a given. let o = known_only (Gives g ks p level at) (λ done n. whole g ks p level at done n) k a (outcome_of (whole g ks p level at [] 0)) refl in ⊎_elim (λ s. absurd (o.0 s)) (λ s. o.1 s) (complete g ks p level at a given (suc (most_open g)) [] 0);
+        only = λ a given. let o = known_only (Gives g ks p level at) (λ done n. whole g ks p level at done n) k a (outcome_of (whole g ks p level at [] 0)) refl
+            in ⊎_elim (λ s. absurd (o.0 s)) (λ s. o.1 s) (complete g ks p level at a given (suc (most_open g)) [] 0);
       }
 
   -- the start rule
-  pub start_known : (r level at : ℕ) → r < length g.rules → Known (GivesProd g ks (Call r) level at) (λ done n. of_production g ks (λ q l from so_far m. whole g ks q l from so_far m) level (Some (Call r)) at done n)
+  pub start_known : (r level at : ℕ) → r < length g.rules → Known (GivesProd g ks (Call r) level at) (λ done n. of_production g ks
+      (λ q l from so_far m. whole g ks q l from so_far m) level (Some (Call r)) at done n)
   start_known r level at h =
       let there = rule_there g fit r h in
       call_known g ks (λ q l from so_far m. whole g ks q l from so_far m) level r there.0 there.1 at there.0.nests (nat_lt level max_level) refl refl
@@ -160,5 +189,6 @@ module _ (g : Table) (fit : IsFit g) (ks : List ℕ) where
   unfolding whole
   start_only r level at h a given =
       let k = start_known r level at h in
-      let o = known_only (GivesProd g ks (Call r) level at) (λ done n. of_production g ks (λ q l from so_far m. whole g ks q l from so_far m) level (Some (Call r)) at done n) k a (outcome_of (of_production g ks (λ q l from so_far m. whole g ks q l from so_far m) level (Some (Call r)) at [] 0)) refl in
+      let o = known_only (GivesProd g ks (Call r) level at) (λ done n. of_production g ks (λ q l from so_far m. whole g ks q l from so_far m) level (Some
+          (Call r)) at done n) k a (outcome_of (of_production g ks (λ q l from so_far m. whole g ks q l from so_far m) level (Some (Call r)) at [] 0)) refl in
       ⊎_elim (λ s. absurd (o.0 s)) (λ s. o.1 s) (complete_of g ks (Call r) level at a given (suc (most_open g)) [] 0)

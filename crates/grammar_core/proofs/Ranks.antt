@@ -18,7 +18,8 @@ abbrev Smaller : List Bool → List Bool → Type 0
 Smaller a b = (b ≡ a) ⊎ (unmarked b < unmarked a)
 
 smaller_then : (a b c : List Bool) → Smaller a b → Smaller b c → Smaller a c
-smaller_then a b c h k = ⊎_elim (λ e. subst (λ (x : List Bool). Smaller x c) e k) (λ f. ⊎_elim (λ e. inr (subst (λ (x : List Bool). unmarked x < unmarked a) (sym e) f)) (λ g. inr (omega (arith, f, g))) k) h
+smaller_then a b c h k = ⊎_elim (λ e. subst (λ (x : List Bool). Smaller x c) e k) (λ f. ⊎_elim (λ e. inr (subst (λ (x : List Bool). unmarked x < unmarked a)
+    (sym e) f)) (λ g. inr (omega (arith, f, g))) k) h
 
 set_smaller : (seen : List Bool) (q : ℕ) → Smaller seen (set_mark seen q)
 set_smaller [] q = inl refl
@@ -37,7 +38,8 @@ row_smaller false row seen = inl refl
 
 sweep_smaller : (rows : List (List ℕ)) (i : ℕ) (seen : List Bool) → Smaller seen (sweep seen i rows)
 sweep_smaller [] i seen = inl refl
-sweep_smaller (row ∷ rows) i seen = let s : List Bool = cond (is_marked seen i) (mark_all seen row) seen in smaller_then seen s (sweep s (i + 1) rows) (row_smaller (is_marked seen i) row seen) (sweep_smaller rows (i + 1) s)
+sweep_smaller (row ∷ rows) i seen = let s : List Bool = cond (is_marked seen i) (mark_all seen row) seen
+    in smaller_then seen s (sweep s (i + 1) rows) (row_smaller (is_marked seen i) row seen) (sweep_smaller rows (i + 1) s)
 
 -- that many sweeps
 abbrev rounds : ℕ → List (List ℕ) → List Bool → List Bool
@@ -51,7 +53,8 @@ rounds_stay (suc k) graph seen e = subst (λ (s : List Bool). sweep (rounds k gr
 -- as many sweeps as there are places without a mark are enough
 rounds_end : (k : ℕ) (graph : List (List ℕ)) (seen : List Bool) → unmarked seen ≤ k → sweep (rounds k graph seen) 0 graph ≡ rounds k graph seen
 rounds_end zero graph seen h = ⊎_elim (λ e. e) (λ f. absurd (omega (arith, f, h))) (sweep_smaller graph 0 seen)
-rounds_end (suc k) graph seen h = ⊎_elim (λ e. rounds_stay (suc k) graph seen e) (λ f. rounds_end k graph (sweep seen 0 graph) (omega (arith, f, h))) (sweep_smaller graph 0 seen)
+rounds_end (suc k) graph seen h = ⊎_elim (λ e. rounds_stay (suc k) graph seen e) (λ f. rounds_end k graph (sweep seen 0 graph) (omega (arith, f, h)))
+    (sweep_smaller graph 0 seen)
 
 rounds_length : (k : ℕ) (graph : List (List ℕ)) (seen : List Bool) → length (rounds k graph seen) ≡ length seen
 rounds_length zero graph seen = refl
@@ -81,7 +84,8 @@ abbrev reach : List (List ℕ) → ℕ → List Bool
 reach graph p = rounds (length graph) graph (mark_all (replicate (length graph) false) (next graph p))
 
 reach_length : (graph : List (List ℕ)) (p : ℕ) → length (reach graph p) ≡ length graph
-reach_length graph p = rounds_length (length graph) graph (mark_all (replicate (length graph) false) (next graph p)) ∙ (all_length (next graph p) (replicate (length graph) false) ∙ length-replicate (length graph) false)
+reach_length graph p = rounds_length (length graph) graph (mark_all (replicate (length graph) false) (next graph p))
+    ∙ (all_length (next graph p) (replicate (length graph) false) ∙ length-replicate (length graph) false)
 
 reach_row : (graph : List (List ℕ)) (p : ℕ) (row : List ℕ) → slice_get graph p ≡ Some row → IsRow graph p (reach graph p)
 reach_row graph p row e =
@@ -116,7 +120,8 @@ module _ (g : Table) where
   pub step_at : (calls : Bool) (p q : ℕ) → IsIn q (next (graph_of calls g) p) → (x : Prod) × (slice_get g.prods p ≡ Some x) × IsIn q (next_prods calls g x)
   step_at calls p q i =
       ⊎_elim (λ some. (some.0, some.2, subst (λ (l : List ℕ). IsIn q l) (next_at calls p some.0 some.2) i))
-      (λ past. absurd (subst (λ (o : Option (List ℕ)). IsIn q (places_of o)) (slice_get-map (λ y. next_prods calls g y) g.prods p ∙ ap (λ (o : Option Prod). option_map (λ y. next_prods calls g y) o) past.1) i))
+      (λ past. absurd (subst (λ (o : Option (List ℕ)). IsIn q (places_of o)) (slice_get-map (λ y. next_prods calls g y) g.prods p
+          ∙ ap (λ (o : Option Prod). option_map (λ y. next_prods calls g y) o) past.1) i))
       (slice_get_cases g.prods p).1
 
   unnested_in : (a : Option ℕ) (b : Option Bool) (q : ℕ) → IsIn q (unnested (rule_from a b)) → (a ≡ Some q) × (b ≡ Some false)
@@ -142,9 +147,11 @@ module _ (g : Table) where
     after : Leads to b
 
   -- a step is one without a call, or a call
-  step_split : (a q : ℕ) (x : Prod) → slice_get g.prods a ≡ Some x → IsIn q (next_prods true g x) → q < length g.prods → IsIn q (next (graph_of false g) a) ⊎ IsCalling a q
+  step_split : (a q : ℕ) (x : Prod) → slice_get g.prods a ≡ Some x → IsIn q (next_prods true g x) → q < length g.prods
+      → IsIn q (next (graph_of false g) a) ⊎ IsCalling a q
   step_split a q (Tok k) e i inside = absurd i
-  step_split a q (Call r) e i inside = let u = unnested_in (slice_get g.rules r) (slice_get g.nests r) q i in inr (record { caller = a; r = r; to = q; is = e; rule = u.0; flat = u.1; inside = inside; before = inl refl; after = inl refl })
+  step_split a q (Call r) e i inside = let u = unnested_in (slice_get g.rules r) (slice_get g.nests r) q i
+      in inr (record { caller = a; r = r; to = q; is = e; rule = u.0; flat = u.1; inside = inside; before = inl refl; after = inl refl })
   step_split a q (Seq ps) e i inside = inl (subst (λ (l : List ℕ). IsIn q l) (sym (next_at false a (Seq ps) e)) i)
   step_split a q (Case bs other) e i inside = inl (subst (λ (l : List ℕ). IsIn q l) (sym (next_at false a (Case bs other) e)) i)
   step_split a q (Star firsts x) e i inside = inl (subst (λ (l : List ℕ). IsIn q l) (sym (next_at false a (Star firsts x) e)) i)
@@ -157,7 +164,8 @@ module _ (g : Table) where
   joined a b _ way (Path.then q r on e i) = Path.then q r (joined a b q way on) e i
 
   leads_joined : (a b c : ℕ) → Leads a b → Leads b c → Leads a c
-  leads_joined a b c h k = ⊎_elim (λ same. subst (λ (x : ℕ). Leads x c) (sym same) k) (λ way. ⊎_elim (λ same. inr (subst (λ (x : ℕ). Path (graph_of true g) a x) same way)) (λ on. inr (joined a b c way on)) k) h
+  leads_joined a b c h k = ⊎_elim (λ same. subst (λ (x : ℕ). Leads x c) (sym same) k) (λ way. ⊎_elim (λ same. inr (subst (λ (x : ℕ). Path
+      (graph_of true g) a x) same way)) (λ on. inr (joined a b c way on)) k) h
 
   path_split : (a b : ℕ) → Path (graph_of true g) a b → Path (graph_of false g) a b ⊎ IsCalling a b
   path_split a _ (Path.first q e i) =
@@ -170,25 +178,32 @@ module _ (g : Table) where
       let n = graph_length true in
       let m = graph_length false in
       ⊎_elim
-      (λ early. ⊎_elim (λ part. inl (Path.then q r early part (omega (arith, i, n, m)))) (λ (call : IsCalling q r). inr (record { caller = call.caller; r = call.r; to = call.to; is = call.is; rule = call.rule; flat = call.flat; inside = call.inside; before = leads_joined a q call.caller (inr way) call.before; after = call.after })) (step_split q r s.0 s.1 s.2 (omega (arith, i, n))))
-      (λ (call : IsCalling a q). inr (record { caller = call.caller; r = call.r; to = call.to; is = call.is; rule = call.rule; flat = call.flat; inside = call.inside; before = call.before; after = inr (leads_on call.to q r call.after e i) }))
+      (λ early. ⊎_elim (λ part. inl (Path.then q r early part (omega (arith, i, n, m)))) (λ (call : IsCalling q r). inr
+          (record { caller = call.caller; r = call.r; to = call.to; is = call.is; rule = call.rule; flat = call.flat; inside = call.inside; before =
+          leads_joined a q call.caller (inr way) call.before; after = call.after })) (step_split q r s.0 s.1 s.2 (omega (arith, i, n))))
+      (λ (call : IsCalling a q). inr (record { caller = call.caller; r = call.r; to = call.to; is = call.is; rule = call.rule; flat = call.flat; inside =
+          call.inside; before = call.before; after = inr (leads_on call.to q r call.after e i) }))
       (path_split a q way)
 
   -- the call is a step
   call_step : (a b : ℕ) (call : IsCalling a b) → IsIn call.to (next (graph_of true g) call.caller)
   call_step a b call =
-      let e : rule_at g call.r ≡ rule_from (Some call.to) (Some false) = ap (λ (o : Option ℕ). rule_from o (slice_get g.nests call.r)) call.rule ∙ ap (λ (o : Option Bool). rule_from (Some call.to) o) call.flat in
+      let e : rule_at g call.r ≡ rule_from (Some call.to) (Some false) = ap (λ (o : Option ℕ). rule_from o (slice_get g.nests call.r)) call.rule
+          ∙ ap (λ (o : Option Bool). rule_from (Some call.to) o) call.flat in
       subst (λ (l : List ℕ). IsIn call.to l) (sym (next_at true call.caller (Call call.r) call.is ∙ ap (λ (o : Option Rule). unnested o) e)) (inl refl)
 
   -- where a production comes back to itself, some production is unfit
   pub no_cycle : ((p : ℕ) → Unfit g p → ⊥) → (q : ℕ) → Path (graph_of true g) q q → ⊥
-  no_cycle fit q way = ⊎_elim (λ flat. fit q (Unfit.own_part flat)) (λ (call : IsCalling q q). fit call.caller (Unfit.own_call call.r call.to call.is call.rule call.flat (around call))) (path_split q q way)
+  no_cycle fit q way = ⊎_elim (λ flat. fit q (Unfit.own_part flat)) (λ (call : IsCalling q q). fit call.caller
+      (Unfit.own_call call.r call.to call.is call.rule call.flat (around call))) (path_split q q way)
     where
       around : (call : IsCalling q q) → Path (graph_of true g) call.to call.to
-      around call = leads_on call.to call.caller call.to (leads_joined call.to q call.caller call.after call.before) (call_step q q call) (omega (arith, call.inside, graph_length true))
+      around call = leads_on call.to call.caller call.to (leads_joined call.to q call.caller call.after call.before) (call_step q q call) (omega
+          (arith, call.inside, graph_length true))
 
   -- the rank falls along each step
-  pub rank_step : ((p : ℕ) → Unfit g p → ⊥) → (p q : ℕ) (x : Prod) → slice_get g.prods p ≡ Some x → IsIn q (next_prods true g x) → q < length g.prods → rank g q < rank g p
+  pub rank_step : ((p : ℕ) → Unfit g p → ⊥) → (p q : ℕ) (x : Prod) → slice_get g.prods p ≡ Some x → IsIn q (next_prods true g x) → q < length g.prods
+      → rank g q < rank g p
   unfolding rank
   rank_step fit p q x e i inside =
       let y = slice_get_cases g.prods q in

@@ -34,7 +34,8 @@ pub below : (g : Table) (p q level : ℕ) → IsBelow g p q → height g q level
 below g p q level b = omega arith
 
 pub nested : (g : Table) (p q level : ℕ) → level < max_level → height g q (level + 1) < height g p level
-nested g p q level low = let e = next_level (length g.prods + 1) (max_level - level) level low refl in let f : rank g q ≤ length g.prods = rank_low g q in omega arith
+nested g p q level low = let e = next_level (length g.prods + 1) (max_level - level) level low refl in let f : rank g q ≤ length g.prods = rank_low g q
+    in omega arith
 
 pub height_low : (g : Table) (p level : ℕ) → height g p level < most_open g
 height_low g p level =
@@ -43,31 +44,39 @@ height_low g p level =
     let c : rank g p ≤ length g.prods = rank_low g p in
     omega arith
 
-module _ (g : Table) (ks : List ℕ) (one other : ℕ → ℕ → Reading) (p level : ℕ) (same : (q l : ℕ) → q < length g.prods → height g q l < height g p level → one q l ≡ other q l) where
+module _ (g : Table) (ks : List ℕ) (one other : ℕ → ℕ → Reading) (p level : ℕ) (same : (q l : ℕ) → q < length g.prods → height g q l < height g p level
+    → one q l ≡ other q l) where
   one_same : (q : ℕ) → IsBelow g p q → one q level ≡ other q level
   one_same q b = same q level b.inside (below g p q level b)
 
-  turn_same : (ps : List ℕ) → AllBelow g p ps → (at : ℕ) (done : List ParseTree) (n : ℕ) → in_turn (λ q. one q level) ps at done n ≡ in_turn (λ q. other q level) ps at done n
+  turn_same : (ps : List ℕ) → AllBelow g p ps → (at : ℕ) (done : List ParseTree) (n : ℕ) → in_turn (λ q. one q level) ps at done n ≡ in_turn
+      (λ q. other q level) ps at done n
   turn_same [] b at done n = refl
   turn_same (q ∷ qs) b at done n =
       ap (λ (r : Reading). then_at (r at done n) (λ to more m. in_turn (λ x. one x level) qs to more m)) (one_same q b.0)
       ∙ then_same (other q level at done n) _ _ (turn_same qs b.1)
 
-  chosen_same : (q : Option ℕ) → OtherBelow g p q → (at : ℕ) (done : List ParseTree) (n : ℕ) → chosen (λ q. one q level) q at done n ≡ chosen (λ q. other q level) q at done n
+  chosen_same : (q : Option ℕ) → OtherBelow g p q → (at : ℕ) (done : List ParseTree) (n : ℕ)
+      → chosen (λ q. one q level) q at done n ≡ chosen (λ q. other q level) q at done n
   chosen_same None b at done n = refl
   chosen_same (Some q) b at done n = ap (λ (r : Reading). r at done n) (one_same q b)
 
-  next_same : (r q at : ℕ) (done : List ParseTree) (n : ℕ) (nests : Bool) → NextFits g p q nests → cond nests (cond (nat_lt level max_level) (close r done (one q (level + 1) at done n)) (Answer.deep at n)) (close r done (one q level at done n)) ≡ cond nests (cond (nat_lt level max_level) (close r done (other q (level + 1) at done n)) (Answer.deep at n)) (close r done (other q level at done n))
+  next_same : (r q at : ℕ) (done : List ParseTree) (n : ℕ) (nests : Bool) → NextFits g p q nests
+      → cond nests (cond (nat_lt level max_level) (close r done (one q (level + 1) at done n)) (Answer.deep at n)) (close r done
+      (one q level at done n)) ≡ cond nests (cond (nat_lt level max_level) (close r done (other q (level + 1) at done n)) (Answer.deep at n)) (close r done
+      (other q level at done n))
   next_same r q at done n false b = ap (λ (f : Reading). close r done (f at done n)) (one_same q b)
   next_same r q at done n true b =
       gated (nat_lt level max_level) (close r done (one q (level + 1) at done n)) (close r done (other q (level + 1) at done n)) (Answer.deep at n)
       (λ e. ap (λ (f : Reading). close r done (f at done n)) (same q (level + 1) b (nested g p q level (ltb-true level max_level e))))
 
-  rule_same : (r : ℕ) (rule : Option Rule) → RuleFits g p rule → (at : ℕ) (done : List ParseTree) (n : ℕ) → of_rule one r level rule at done n ≡ of_rule other r level rule at done n
+  rule_same : (r : ℕ) (rule : Option Rule) → RuleFits g p rule → (at : ℕ) (done : List ParseTree) (n : ℕ)
+      → of_rule one r level rule at done n ≡ of_rule other r level rule at done n
   rule_same r None b at done n = refl
   rule_same r (Some rule) b at done n = next_same r rule.to at done n rule.nests b
 
-  pub production_same : (x : Option Prod) → Fits g p x → (at : ℕ) (done : List ParseTree) (n : ℕ) → of_production g ks one level x at done n ≡ of_production g ks other level x at done n
+  pub production_same : (x : Option Prod) → Fits g p x → (at : ℕ) (done : List ParseTree) (n : ℕ)
+      → of_production g ks one level x at done n ≡ of_production g ks other level x at done n
   production_same None b at done n = refl
   production_same (Some (Tok k)) b at done n = refl
   production_same (Some (Call r)) b at done n = rule_same r (rule_at g r) b at done n
@@ -84,8 +93,11 @@ module _ (g : Table) (fit : IsFit g) (ks : List ℕ) where
       (λ q l in_q falls. agree h k q l in_q (omega arith) (omega arith)) (slice_get g.prods p) (fits_at g fit p inside) at done (suc n) i
 
   -- the recursion that no bound tells
-  pub unroll : (p level at : ℕ) (done : List ParseTree) (n : ℕ) → p < length g.prods → whole g ks p level at done n ≡ of_production g ks (whole g ks) level (slice_get g.prods p) at done (suc n)
+  pub unroll : (p level at : ℕ) (done : List ParseTree) (n : ℕ) → p < length g.prods → whole g ks p level at done n ≡ of_production g ks (whole g ks) level
+      (slice_get g.prods p) at done (suc n)
   unfolding whole
   unroll p level at done n inside =
-      production_same g ks (λ q l from so_far m. answer g ks (most_open g) q l from so_far m) (λ q l from so_far m. answer g ks (suc (most_open g)) q l from so_far m) p level
-      (λ q l in_q falls. agree (most_open g) (suc (most_open g)) q l in_q (height_low g q l) (omega (arith, height_low g q l))) (slice_get g.prods p) (fits_at g fit p inside) at done (suc n)
+      production_same g ks (λ q l from so_far m. answer g ks (most_open g) q l from so_far m) (λ q l from so_far m. answer g ks (suc
+          (most_open g)) q l from so_far m) p level
+      (λ q l in_q falls. agree (most_open g) (suc (most_open g)) q l in_q (height_low g q l) (omega (arith, height_low g q l))) (slice_get g.prods p)
+          (fits_at g fit p inside) at done (suc n)

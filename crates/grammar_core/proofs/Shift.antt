@@ -77,7 +77,8 @@ rule_shifts one h r level (Some rule) at done n =
     (cond_later (nat_lt level max_level) _ _ _ _ (close_shifts r (one rule.to (level + 1)) (h rule.to (level + 1)) at done n) refl)
     (close_shifts r (one rule.to level) (h rule.to level) at done n)
 
-pub production_shifts : (g : Table) (ks : List ℕ) (one : ℕ → ℕ → Reading) → ((q l : ℕ) → Shifts (one q l)) → (level : ℕ) (x : Option Prod) → Shifts (of_production g ks one level x)
+pub production_shifts : (g : Table) (ks : List ℕ) (one : ℕ → ℕ → Reading) → ((q l : ℕ) → Shifts (one q l)) → (level : ℕ) (x : Option Prod)
+    → Shifts (of_production g ks one level x)
 production_shifts g ks one h level None at done n = refl
 production_shifts g ks one h level (Some (Tok k)) at done n = cond_later (next_is ks at k) _ _ _ _ refl refl
 production_shifts g ks one h level (Some (Call r)) at done n = rule_shifts one h r level (rule_at g r) at done n
@@ -87,7 +88,8 @@ production_shifts g ks one h level (Some (Star firsts q)) at done n = again_shif
 
 answer_shifts : (g : Table) (ks : List ℕ) (h p level : ℕ) → Shifts (answer g ks h p level)
 answer_shifts g ks zero p level at done n = refl
-answer_shifts g ks (suc h) p level at done n = production_shifts g ks (λ q l from so_far m. answer g ks h q l from so_far m) (answer_shifts g ks h) level (slice_get g.prods p) at done (suc n)
+answer_shifts g ks (suc h) p level at done n = production_shifts g ks (λ q l from so_far m. answer g ks h q l from so_far m) (answer_shifts g ks h) level
+    (slice_get g.prods p) at done (suc n)
 
 pub whole_shifts : (g : Table) (ks : List ℕ) (p level : ℕ) → Shifts (whole g ks p level)
 unfolding whole
@@ -99,7 +101,8 @@ task_shifts g ks (Close r start) at done n = refl
 
 from_shifts : (g : Table) (ks : List ℕ) (ts : List Task) (next : Reading) → Shifts next → Shifts (tasks_from g ks ts next)
 from_shifts g ks [] next h at done n = h at done n
-from_shifts g ks (t ∷ ts) next h at done n = from_shifts g ks ts (λ to more m. then_at (task g ks t to more m) next) (then_shifts (task g ks t) next (task_shifts g ks t) h) at done n
+from_shifts g ks (t ∷ ts) next h at done n = from_shifts g ks ts (λ to more m. then_at (task g ks t to more m) next) (then_shifts (task g ks t) next
+    (task_shifts g ks t) h) at done n
 
 pub tasks_shift : (g : Table) (ks : List ℕ) (ts : List Task) → Shifts (tasks g ks ts)
 unfolding tasks

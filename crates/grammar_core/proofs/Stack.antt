@@ -29,24 +29,29 @@ pub last_read : (level p : ℕ) (ps : List ℕ) (ts : List Task) → ts ++ rever
 last_read level p ps ts = rw (reverse-append (Read p level ∷ []) (reads level ps)) (sym (append_assoc ts (reverse (reads level ps)) (Read p level ∷ [])))
 
 module _ (g : Table) (ks : List ℕ) where
-  from_snoc : (ts : List Task) (t : Task) (next : Reading) (at : ℕ) (done : List ParseTree) (n : ℕ) → tasks_from g ks (ts ++ (t ∷ [])) next at done n ≡ then_at (task g ks t at done n) (λ to more m. tasks_from g ks ts next to more m)
+  from_snoc : (ts : List Task) (t : Task) (next : Reading) (at : ℕ) (done : List ParseTree) (n : ℕ) → tasks_from g ks (ts ++ (t
+      ∷ [])) next at done n ≡ then_at (task g ks t at done n) (λ to more m. tasks_from g ks ts next to more m)
   from_snoc [] t next at done n = refl
   from_snoc (u ∷ us) t next at done n = from_snoc us t (λ to more m. then_at (task g ks u to more m) next) at done n
 
   -- the last task is the next one
-  pub tasks-snoc : (ts : List Task) (t : Task) (at : ℕ) (done : List ParseTree) (n : ℕ) → tasks g ks (ts ++ (t ∷ [])) at done n ≡ then_at (task g ks t at done n) (λ to more m. tasks g ks ts to more m)
+  pub tasks-snoc : (ts : List Task) (t : Task) (at : ℕ) (done : List ParseTree) (n : ℕ) → tasks g ks (ts ++ (t
+      ∷ [])) at done n ≡ then_at (task g ks t at done n) (λ to more m. tasks g ks ts to more m)
   unfolding tasks
   tasks-snoc ts t at done n = from_snoc ts t (λ to more m. Answer.ends to more m) at done n
 
-  pub tasks-all : (level : ℕ) (ps : List ℕ) (ts : List Task) (at : ℕ) (done : List ParseTree) (n : ℕ) → tasks g ks (ts ++ reverse (reads level ps)) at done n ≡ then_at (in_turn (λ q. whole g ks q level) ps at done n) (λ to more m. tasks g ks ts to more m)
+  pub tasks-all : (level : ℕ) (ps : List ℕ) (ts : List Task) (at : ℕ) (done : List ParseTree) (n : ℕ) → tasks g ks (ts
+      ++ reverse (reads level ps)) at done n ≡ then_at (in_turn (λ q. whole g ks q level) ps at done n) (λ to more m. tasks g ks ts to more m)
   tasks-all level [] ts at done n = ap (λ (l : List Task). tasks g ks l at done n) (append-nil ts)
   tasks-all level (p ∷ ps) ts at done n =
       ap (λ (l : List Task). tasks g ks l at done n) (last_read level p ps ts)
       ∙ tasks-snoc (ts ++ reverse (reads level ps)) (Read p level) at done n
       ∙ by_answer (whole g ks p level at done n) (tasks-all level ps ts)
     where
-      by_answer : (a : Answer) → ((to : ℕ) (more : List ParseTree) (m : ℕ) → tasks g ks (ts ++ reverse (reads level ps)) to more m ≡ then_at (in_turn (λ q. whole g ks q level) ps to more m) (λ x l i. tasks g ks ts x l i))
-          → then_at a (λ to more m. tasks g ks (ts ++ reverse (reads level ps)) to more m) ≡ then_at (then_at a (λ to more m. in_turn (λ q. whole g ks q level) ps to more m)) (λ x l i. tasks g ks ts x l i)
+      by_answer : (a : Answer) → ((to : ℕ) (more : List ParseTree) (m : ℕ) → tasks g ks (ts
+          ++ reverse (reads level ps)) to more m ≡ then_at (in_turn (λ q. whole g ks q level) ps to more m) (λ x l i. tasks g ks ts x l i))
+          → then_at a (λ to more m. tasks g ks (ts ++ reverse (reads level ps)) to more m) ≡ then_at (then_at a (λ to more m. in_turn
+              (λ q. whole g ks q level) ps to more m)) (λ x l i. tasks g ks ts x l i)
       by_answer (Answer.ends to more m) same = same to more m
       by_answer (Answer.stuck x m) same = refl
       by_answer (Answer.deep x m) same = refl
@@ -72,27 +77,36 @@ module _ (g : Table) (ks : List ℕ) where
 
   AreTasks-all : (p level : ℕ) (ps : List ℕ) (ts : List Task) → AllBelow g p ps → AreTasks g ts → AreTasks g (ts ++ reverse (reads level ps))
   AreTasks-all p level [] ts b all = rw (append-nil ts) all
-  AreTasks-all p level (q ∷ qs) ts b all = rw (last_read level q qs ts) (AreTasks-snoc (ts ++ reverse (reads level qs)) (Read q level) (AreTasks-all p level qs ts b.1 all) b.0.inside)
+  AreTasks-all p level (q ∷ qs) ts b all = rw (last_read level q qs ts) (AreTasks-snoc (ts
+      ++ reverse (reads level qs)) (Read q level) (AreTasks-all p level qs ts b.1 all) b.0.inside)
 
   -- a rule: its trees are put below it when its production has ended
-  pub tasks-rule : (ts : List Task) (r q level at : ℕ) (done : List ParseTree) (n : ℕ) → tasks g ks ((ts ++ (Close r (length done) ∷ [])) ++ (Read q level ∷ [])) at done n ≡ then_at (close r done (whole g ks q level at done n)) (λ to more m. tasks g ks ts to more m)
+  pub tasks-rule : (ts : List Task) (r q level at : ℕ) (done : List ParseTree) (n : ℕ) → tasks g ks ((ts ++ (Close r (length done) ∷ [])) ++ (Read q level
+      ∷ [])) at done n ≡ then_at (close r done (whole g ks q level at done n)) (λ to more m. tasks g ks ts to more m)
   tasks-rule ts r q level at done n = tasks-snoc (ts ++ (Close r (length done) ∷ [])) (Read q level) at done n ∙ by_answer (whole g ks q level at done n)
     where
-      by_answer : (a : Answer) → then_at a (λ to more m. tasks g ks (ts ++ (Close r (length done) ∷ [])) to more m) ≡ then_at (close r done a) (λ to more m. tasks g ks ts to more m)
+      by_answer : (a : Answer) → then_at a (λ to more m. tasks g ks (ts ++ (Close r (length done)
+          ∷ [])) to more m) ≡ then_at (close r done a) (λ to more m. tasks g ks ts to more m)
       by_answer (Answer.ends to more m) = tasks-snoc ts (Close r (length done)) to more m
       by_answer (Answer.stuck x m) = refl
       by_answer (Answer.deep x m) = refl
       by_answer (Answer.spent m) = refl
 
   module _ (fit : IsFit g) where
-    pub tasks-star : (ts : List Task) (p q level : ℕ) (firsts : List ℕ) (at : ℕ) (done : List ParseTree) (n : ℕ) → slice_get g.prods p ≡ Some (Star firsts q) → p < length g.prods → (MayBeEmpty g q → ⊥) → begins ks at firsts ≡ true
-        → tasks g ks ((ts ++ (Read p level ∷ [])) ++ (Read q level ∷ [])) at done n ≡ then_at (again ks firsts (whole g ks q level) (suc (length ks - at)) at done n) (λ to more m. tasks g ks ts to more m)
-    tasks-star ts p q level firsts at done n is inside never b = tasks-snoc (ts ++ (Read p level ∷ [])) (Read q level) at done n ∙ by_answer (whole g ks q level at done n) refl
+    pub tasks-star : (ts : List Task) (p q level : ℕ) (firsts : List ℕ) (at : ℕ) (done : List ParseTree) (n : ℕ) → slice_get g.prods p ≡ Some (Star firsts q)
+        → p < length g.prods → (MayBeEmpty g q → ⊥) → begins ks at firsts ≡ true
+        → tasks g ks ((ts ++ (Read p level ∷ [])) ++ (Read q level ∷ [])) at done n ≡ then_at (again ks firsts (whole g ks q level) (suc
+            (length ks - at)) at done n) (λ to more m. tasks g ks ts to more m)
+    tasks-star ts p q level firsts at done n is inside never b = tasks-snoc (ts ++ (Read p level ∷ [])) (Read q level) at done n
+        ∙ by_answer (whole g ks q level at done n) refl
       where
-        by_answer : (a : Answer) → whole g ks q level at done n ≡ a → then_at a (λ to more m. tasks g ks (ts ++ (Read p level ∷ [])) to more m) ≡ then_at (again ks firsts (whole g ks q level) (suc (length ks - at)) at done n) (λ to more m. tasks g ks ts to more m)
+        by_answer : (a : Answer) → whole g ks q level at done n ≡ a → then_at a (λ to more m. tasks g ks (ts ++ (Read p level
+            ∷ [])) to more m) ≡ then_at (again ks firsts (whole g ks q level) (suc (length ks - at)) at done n) (λ to more m. tasks g ks ts to more m)
         by_answer (Answer.ends to more m) e =
             tasks-snoc ts (Read p level) to more m
-            ∙ ap (λ (a : Answer). then_at a (λ x l i. tasks g ks ts x l i)) (unroll g fit ks p level to more m inside ∙ ap (λ (x : Option Prod). of_production g ks (whole g ks) level x to more (suc m)) is ∙ star_more g ks firsts q level never at to done more n m b e)
+            ∙ ap (λ (a : Answer). then_at a (λ x l i. tasks g ks ts x l i)) (unroll g fit ks p level to more m inside
+                ∙ ap (λ (x : Option Prod). of_production g ks (whole g ks) level x to more (suc m)) is
+                ∙ star_more g ks firsts q level never at to done more n m b e)
         by_answer (Answer.stuck x m) e = rw (b, e) refl
         by_answer (Answer.deep x m) e = rw (b, e) refl
         by_answer (Answer.spent m) e = rw (b, e) refl
@@ -101,13 +115,15 @@ other_inside : (g : Table) (p q : ℕ) (o : Option ℕ) → o ≡ Some q → Oth
 other_inside g p q o e b = let c : IsBelow g p q = subst (λ (x : Option ℕ). OtherBelow g p x) e b in c.inside
 
 -- a rule's two tasks
-pub did_call : (g : Table) (ks : List ℕ) (old new : List Task) (level at : ℕ) (done : List ParseTree) (n r : ℕ) (rule : Rule) (inner : ℕ) → rule_at g r ≡ Some rule → level_in rule level ≡ Some inner → new ≡ (old ++ (Close r (length done) ∷ [])) ++ (Read rule.to inner ∷ [])
+pub did_call : (g : Table) (ks : List ℕ) (old new : List Task) (level at : ℕ) (done : List ParseTree) (n r : ℕ) (rule : Rule) (inner : ℕ)
+    → rule_at g r ≡ Some rule → level_in rule level ≡ Some inner → new ≡ (old ++ (Close r (length done) ∷ [])) ++ (Read rule.to inner ∷ [])
     → tasks g ks new at done n ≡ then_at (of_production g ks (whole g ks) level (Some (Call r)) at done n) (λ to more m. tasks g ks old to more m)
 did_call g ks old new level at done n r rule inner is l e =
     let same = at_level rule.nests (nat_lt level max_level) level inner l (λ y. close r done (whole g ks rule.to y at done n)) (Answer.deep at n) in
     rw (e, is) (tasks-rule g ks old r rule.to inner at done n ∙ ap (λ (a : Answer). then_at a (λ to more m. tasks g ks old to more m)) (sym same))
 
-module _ (g : Table) (fit : IsFit g) (ks : List ℕ) (x : Prod) (p level at : ℕ) (done : List ParseTree) (old new : List Task) (is : slice_get g.prods p ≡ Some x) (all : AreTasks g old) where
+module _ (g : Table) (fit : IsFit g) (ks : List ℕ) (x : Prod) (p level at : ℕ) (done : List ParseTree) (old new : List Task) (is : slice_get g.prods p ≡ Some x)
+    (all : AreTasks g old) where
   abbrev pub Did : Type 0
   Did = (tasks g ks new at done 1 ≡ then_at (of_production g ks (whole g ks) level (Some x) at done 1) (λ to more m. tasks g ks old to more m)) × AreTasks g new
 
@@ -120,57 +136,77 @@ module _ (g : Table) (fit : IsFit g) (ks : List ℕ) (x : Prod) (p level at : �
   pub did_case : (bs : List Branch) (other : Option ℕ) (q : ℕ) → x ≡ Case bs other → branch_of ks at bs other ≡ Some q → new ≡ old ++ (Read q level ∷ []) → Did
   did_case bs other q e b n =
       let f = fits g fit p (Case bs other) (is_as (Case bs other) e) in
-      rw (e, n, b) (tasks-snoc g ks old (Read q level) at done 1, AreTasks-snoc g ks old (Read q level) all (other_inside g p q (branch_of ks at bs other) b (branch_below g ks p at bs other f)))
+      rw (e, n, b) (tasks-snoc g ks old (Read q level) at done 1, AreTasks-snoc g ks old (Read q level) all (other_inside g p q (branch_of ks at bs other) b
+          (branch_below g ks p at bs other f)))
 
   pub did_star : (firsts : List ℕ) (q : ℕ) → x ≡ Star firsts q → begins ks at firsts ≡ true → new ≡ (old ++ (Read p level ∷ [])) ++ (Read q level ∷ []) → Did
   did_star firsts q e b n =
       let i = is_as (Star firsts q) e in
       let f = fits g fit p (Star firsts q) i in
       let inside = slice_get_within g.prods p (Star firsts q) i in
-      rw (n) (rw e (tasks-star g ks fit old p q level firsts at done 1 i inside f.1 b), AreTasks-snoc g ks (old ++ (Read p level ∷ [])) (Read q level) (AreTasks-snoc g ks old (Read p level) all inside) f.0.inside)
+      rw (n) (rw e (tasks-star g ks fit old p q level firsts at done 1 i inside f.1 b), AreTasks-snoc g ks (old ++ (Read p level
+          ∷ [])) (Read q level) (AreTasks-snoc g ks old (Read p level) all inside) f.0.inside)
 
-  pub did_rule : (r : ℕ) (rule : Rule) (inner : ℕ) → x ≡ Call r → r < length g.rules → rule_at g r ≡ Some rule → level_in rule level ≡ Some inner → new ≡ (old ++ (Close r (length done) ∷ [])) ++ (Read rule.to inner ∷ []) → Did
+  pub did_rule : (r : ℕ) (rule : Rule) (inner : ℕ) → x ≡ Call r → r < length g.rules → rule_at g r ≡ Some rule → level_in rule level ≡ Some inner → new ≡ (old
+      ++ (Close r (length done) ∷ [])) ++ (Read rule.to inner ∷ []) → Did
   did_rule r rule inner e h i l n =
       let there = rule_there g fit r h in
       let same : there.0 ≡ rule = let s : Some there.0 ≡ Some rule = sym there.1 ∙ i in cc in
       let inside : rule.to < length g.prods = subst (λ (z : Rule). z.to < length g.prods) same there.2 in
-      (rw e (did_call g ks old new level at done 1 r rule inner i l n), rw n (AreTasks-snoc g ks (old ++ (Close r (length done) ∷ [])) (Read rule.to inner) (AreTasks-snoc g ks old (Close r (length done)) all tt) inside))
+      (rw e (did_call g ks old new level at done 1 r rule inner i l n), rw n (AreTasks-snoc g ks (old ++ (Close r (length done)
+          ∷ [])) (Read rule.to inner) (AreTasks-snoc g ks old (Close r (length done)) all tt) inside))
 
-  pub did_not : (r : ℕ) (rule : Rule) → x ≡ Call r → rule_at g r ≡ Some rule → level_in rule level ≡ None → of_production g ks (whole g ks) level (Some x) at done 1 ≡ Answer.deep at 1
-  did_not r rule e i l = rw (e, i) (at_no_level rule.nests (nat_lt level max_level) level l (λ y. close r done (whole g ks rule.to y at done 1)) (Answer.deep at 1))
+  pub did_not : (r : ℕ) (rule : Rule) → x ≡ Call r → rule_at g r ≡ Some rule → level_in rule level ≡ None
+      → of_production g ks (whole g ks) level (Some x) at done 1 ≡ Answer.deep at 1
+  did_not r rule e i l = rw (e, i) (at_no_level rule.nests (nat_lt level max_level) level l (λ y. close r done (whole g ks rule.to y at done 1))
+      (Answer.deep at 1))
 
 -- an error of the next task is the error of all
-pub fails_all : (g : Table) (ks : List ℕ) (e : ParseFault) (trees : List ParseTree) (stack rest : List Task) (t : Task) (at : ℕ) (done : List ParseTree) (z : Answer) → stack ≡ rest ++ (t ∷ []) → outcome_of (tasks g ks stack at done 0) ≡ outcome_of z → Meets (Err e) trees (task g ks t at done 0) → Meets (Err e) trees z
+pub fails_all : (g : Table) (ks : List ℕ) (e : ParseFault) (trees : List ParseTree) (stack rest : List Task) (t : Task) (at : ℕ) (done : List ParseTree)
+    (z : Answer) → stack ≡ rest ++ (t ∷ []) → outcome_of (tasks g ks stack at done 0) ≡ outcome_of z → Meets (Err e) trees (task g ks t at done 0)
+    → Meets (Err e) trees z
 fails_all g ks Memory trees stack rest t at done z s same m = tt
-fails_all g ks (Stuck x) trees stack rest t at done z s same m = sym same ∙ ap (λ (l : List Task). outcome_of (tasks g ks l at done 0)) s ∙ ap (λ (a : Answer). outcome_of a) (tasks-snoc g ks rest t at done 0) ∙ stop_some (task g ks t at done 0) (λ to more m. tasks g ks rest to more m) (Outcome.stuck x) tt m
-fails_all g ks (Deep x) trees stack rest t at done z s same m = sym same ∙ ap (λ (l : List Task). outcome_of (tasks g ks l at done 0)) s ∙ ap (λ (a : Answer). outcome_of a) (tasks-snoc g ks rest t at done 0) ∙ stop_some (task g ks t at done 0) (λ to more m. tasks g ks rest to more m) (Outcome.deep x) tt m
+fails_all g ks (Stuck x) trees stack rest t at done z s same m = sym same ∙ ap (λ (l : List Task). outcome_of (tasks g ks l at done 0)) s
+    ∙ ap (λ (a : Answer). outcome_of a) (tasks-snoc g ks rest t at done 0) ∙ stop_some (task g ks t at done 0) (λ to more m. tasks g ks rest to more m)
+    (Outcome.stuck x) tt m
+fails_all g ks (Deep x) trees stack rest t at done z s same m = sym same ∙ ap (λ (l : List Task). outcome_of (tasks g ks l at done 0)) s
+    ∙ ap (λ (a : Answer). outcome_of a) (tasks-snoc g ks rest t at done 0) ∙ stop_some (task g ks t at done 0) (λ to more m. tasks g ks rest to more m)
+    (Outcome.deep x) tt m
 
 pub none_left : (l : List Task) → length l ≡ 0 → l ≡ []
 none_left [] e = refl
 none_left (t ∷ ts) e = absurd (omega arith)
 
 -- what comes next is among what is left
-pub taken : (r : Option Task) (old new : List Task) (next : Option Task) → MatchOption r (left old next ≡ []) (λ t. left old next ≡ new ++ (t ∷ [])) → MatchOption r (new ≡ []) (λ t. ⊤) → (left old next ≡ left new r) × (r ≡ None → new ≡ [])
+pub taken : (r : Option Task) (old new : List Task) (next : Option Task) → MatchOption r (left old next ≡ []) (λ t. left old next ≡ new ++ (t ∷ []))
+    → MatchOption r (new ≡ []) (λ t. ⊤) → (left old next ≡ left new r) × (r ≡ None → new ≡ [])
 taken None old new next h k = (rw k h, λ e. k)
 taken (Some t) old new next h k = (h, λ e. absurd (cc))
 
 -- one step: the outcome stays, and one step less is to come
-pub one_step : (g : Table) (ks : List ℕ) (stack rest new : List Task) (t : Task) (at to : ℕ) (done more : List ParseTree) → stack ≡ rest ++ (t ∷ []) → tasks g ks new to more 1 ≡ then_at (task g ks t at done 0) (λ x l i. tasks g ks rest x l i)
-    → (outcome_of (tasks g ks new to more 0) ≡ outcome_of (tasks g ks stack at done 0)) × (steps_of (tasks g ks new to more 0) < steps_of (tasks g ks stack at done 0))
+pub one_step : (g : Table) (ks : List ℕ) (stack rest new : List Task) (t : Task) (at to : ℕ) (done more : List ParseTree) → stack ≡ rest ++ (t ∷ [])
+    → tasks g ks new to more 1 ≡ then_at (task g ks t at done 0) (λ x l i. tasks g ks rest x l i)
+    → (outcome_of (tasks g ks new to more 0) ≡ outcome_of (tasks g ks stack at done 0)) × (steps_of (tasks g ks new to more 0) < steps_of
+        (tasks g ks stack at done 0))
 one_step g ks stack rest new t at to done more s e =
-    let all : tasks g ks stack at done 0 ≡ later (tasks g ks new to more 0) = ap (λ (l : List Task). tasks g ks l at done 0) s ∙ tasks-snoc g ks rest t at done 0 ∙ sym e ∙ tasks_shift g ks new to more 0 in
-    let less : steps_of (tasks g ks stack at done 0) ≡ suc (steps_of (tasks g ks new to more 0)) = ap (λ (a : Answer). steps_of a) all ∙ steps_of-later (tasks g ks new to more 0) in
+    let all : tasks g ks stack at done 0 ≡ later (tasks g ks new to more 0) = ap (λ (l : List Task). tasks g ks l at done 0) s
+        ∙ tasks-snoc g ks rest t at done 0 ∙ sym e ∙ tasks_shift g ks new to more 0 in
+    let less : steps_of (tasks g ks stack at done 0) ≡ suc (steps_of (tasks g ks new to more 0)) = ap (λ (a : Answer). steps_of a) all
+        ∙ steps_of-later (tasks g ks new to more 0) in
     (sym (ap (λ (a : Answer). outcome_of a) all ∙ outcome_of-later (tasks g ks new to more 0)), omega (arith, less))
 
 -- the first two tasks
-pub started : (g : Table) (fit : IsFit g) (ks : List ℕ) (trees : List ParseTree) (none stack : List Task) (r inner : ℕ) (rule : Rule) → trees ≡ [] → none ≡ [] → r < length g.rules → rule_at g r ≡ Some rule → level_in rule 0 ≡ Some inner → stack ≡ (none ++ (Close r 0 ∷ [])) ++ (Read rule.to inner ∷ [])
+pub started : (g : Table) (fit : IsFit g) (ks : List ℕ) (trees : List ParseTree) (none stack : List Task) (r inner : ℕ) (rule : Rule) → trees ≡ [] → none ≡ []
+    → r < length g.rules → rule_at g r ≡ Some rule → level_in rule 0 ≡ Some inner → stack ≡ (none ++ (Close r 0 ∷ [])) ++ (Read rule.to inner ∷ [])
     → (outcome_of (tasks g ks stack 0 trees 0) ≡ outcome_of (of_production g ks (whole g ks) 0 (Some (Call r)) 0 [] 0)) × AreTasks g stack
 started g fit ks trees none stack r inner rule t n h i l s =
-    let all : stack ≡ ([] ++ (Close r 0 ∷ [])) ++ (Read rule.to inner ∷ []) = s ∙ ap (λ (x : List Task). (x ++ (Close r 0 ∷ [])) ++ (Read rule.to inner ∷ [])) n in
+    let all : stack ≡ ([] ++ (Close r 0 ∷ [])) ++ (Read rule.to inner ∷ []) = s ∙ ap (λ (x : List Task). (x ++ (Close r 0 ∷ [])) ++ (Read rule.to inner
+        ∷ [])) n in
     let there = rule_there g fit r h in
     let same : there.0 ≡ rule = let e : Some there.0 ≡ Some rule = sym there.1 ∙ i in cc in
     let inside : rule.to < length g.prods = subst (λ (z : Rule). z.to < length g.prods) same there.2 in (
       ap (λ (x : List ParseTree). outcome_of (tasks g ks stack 0 x 0)) t
-          ∙ ap (λ (a : Answer). outcome_of a) (did_call g ks [] stack 0 0 [] 0 r rule inner i l all ∙ then_none g ks (of_production g ks (whole g ks) 0 (Some (Call r)) 0 [] 0)),
+          ∙ ap (λ (a : Answer). outcome_of a) (did_call g ks [] stack 0 0 [] 0 r rule inner i l all
+              ∙ then_none g ks (of_production g ks (whole g ks) 0 (Some (Call r)) 0 [] 0)),
       rw all (tt, (inside, tt)),
     )

@@ -26,7 +26,8 @@ past_sound : (n : ℕ) (ps : List ℕ) → any_past n ps ≡ true → (q : ℕ) 
 past_sound n [] e = (cc)
 past_sound n (q ∷ qs) e = by_first (nat_le n q) refl e (past_sound n qs)
   where
-    by_first : (v : Bool) → nat_le n q ≡ v → cond v true (any_past n qs) ≡ true → (any_past n qs ≡ true → (r : ℕ) × IsIn r qs × (n ≤ r)) → (r : ℕ) × IsIn r (q ∷ qs) × (n ≤ r)
+    by_first : (v : Bool) → nat_le n q ≡ v → cond v true (any_past n qs) ≡ true → (any_past n qs ≡ true → (r : ℕ) × IsIn r qs × (n ≤ r)) → (r : ℕ) × IsIn r (q
+        ∷ qs) × (n ≤ r)
     by_first true t e rest = (q, inl refl, le_true n q t)
     by_first false t e rest = let r = rest e in (r.0, inr r.1, r.2)
 
@@ -73,11 +74,13 @@ module _ (g : Table) (p : ℕ) (x : Prod) (is : slice_get g.prods p ≡ Some x) 
   call_unfit : CallComesBack g x → Unfit g p
   call_unfit h = from x is h
     where
-      by_nests : (r q : ℕ) (n : Bool) → slice_get g.prods p ≡ Some (Call r) → slice_get g.rules r ≡ Some q → slice_get g.nests r ≡ Some n → ComesBack g q n → Unfit g p
+      by_nests : (r q : ℕ) (n : Bool) → slice_get g.prods p ≡ Some (Call r) → slice_get g.rules r ≡ Some q → slice_get g.nests r ≡ Some n → ComesBack g q n
+          → Unfit g p
       by_nests r q true i e f h = absurd h
       by_nests r q false i e f h = Unfit.own_call r q i e f h
 
-      by_rule : (r : ℕ) → slice_get g.prods p ≡ Some (Call r) → (a : Option ℕ) (b : Option Bool) → slice_get g.rules r ≡ a → slice_get g.nests r ≡ b → RuleComesBack g (rule_from a b) → Unfit g p
+      by_rule : (r : ℕ) → slice_get g.prods p ≡ Some (Call r) → (a : Option ℕ) (b : Option Bool) → slice_get g.rules r ≡ a → slice_get g.nests r ≡ b
+          → RuleComesBack g (rule_from a b) → Unfit g p
       by_rule r i None b e f h = absurd h
       by_rule r i (Some q) None e f h = absurd h
       by_rule r i (Some q) (Some n) e f h = by_nests r q n i e f h
@@ -92,7 +95,8 @@ module _ (g : Table) (p : ℕ) (x : Prod) (is : slice_get g.prods p ≡ Some x) 
   same_prod : (y : Prod) → slice_get g.prods p ≡ Some y → y ≡ x
   same_prod y e = let s : Some y ≡ Some x = sym e ∙ is in cc
 
-  module _ (seen : List Bool) (marks : MarksEmpty g seen) (inside : outside_by g x ≡ false) (reads : empty_body_by seen x ≡ false) (flat : Path (graph_of false g) p p → ⊥) where
+  module _ (seen : List Bool) (marks : MarksEmpty g seen) (inside : outside_by g x ≡ false) (reads : empty_body_by seen x ≡ false) (flat : Path
+      (graph_of false g) p p → ⊥) where
     unfit_call : Unfit g p → CallComesBack g x
     unfit_call (Unfit.outside y e o) = absurd (outside_not g x inside (subst (λ (z : Prod). IsOutside g z) (same_prod y e) o))
     unfit_call (Unfit.empty_body firsts q e m) =
@@ -100,7 +104,8 @@ module _ (g : Table) (p : ℕ) (x : Prod) (is : slice_get g.prods p ≡ Some x) 
         absurd (false≢true (sym reads ∙ s ∙ marks.complete q m))
     unfit_call (Unfit.own_part way) = absurd (flat way)
     unfit_call (Unfit.own_call r q e f n way) =
-        let s : rule_at g r ≡ Some (record { to = q; nests = false }) = ap (λ (o : Option ℕ). rule_from o (slice_get g.nests r)) f ∙ ap (λ (o : Option Bool). rule_from (Some q) o) n in
+        let s : rule_at g r ≡ Some (record { to = q; nests = false }) = ap (λ (o : Option ℕ). rule_from o (slice_get g.nests r)) f
+            ∙ ap (λ (o : Option Bool). rule_from (Some q) o) n in
         subst (λ (z : Prod). CallComesBack g z) (same_prod (Call r) e) (subst (λ (o : Option Rule). RuleComesBack g o) (sym s) way)
 
     -- the last test decides

@@ -28,7 +28,8 @@ Means len (Outcome.deep x) (Verdict.stuck at) = ⊥
 Means len (Outcome.deep x) (Verdict.deep at) = x ≡ at
 
 means_one : (len : ℕ) (a : Outcome) (v w : Verdict) → Means len a v → Means len a w → v ≡ w
-means_one len (Outcome.ends to trees) (Verdict.derived t) (Verdict.derived u) h k = let e : t ∷ [] ≡ u ∷ [] = sym h.1 ∙ k.1 in let s : t ≡ u = cc in ap (λ (x : ParseTree). Verdict.derived x) s
+means_one len (Outcome.ends to trees) (Verdict.derived t) (Verdict.derived u) h k = let e : t ∷ [] ≡ u ∷ [] = sym h.1 ∙ k.1 in let s : t ≡ u = cc
+    in ap (λ (x : ParseTree). Verdict.derived x) s
 means_one len (Outcome.ends to trees) (Verdict.derived t) (Verdict.stuck x) h k = absurd (k.1 h.0)
 means_one len (Outcome.ends to trees) (Verdict.derived t) (Verdict.deep x) h k = absurd k
 means_one len (Outcome.ends to trees) (Verdict.stuck x) (Verdict.derived t) h k = absurd (h.1 k.0)
@@ -64,15 +65,18 @@ module _ (g : Table) (ks : List ℕ) where
 
   meaning : (a : Outcome) → IsSingle a → (v : Verdict) × Means (length ks) a v
   meaning (Outcome.ends to trees) s =
-      let front = λ (h : to ≢ length ks). let m : Means (length ks) (Outcome.ends to trees) (Verdict.stuck to) = (refl, h) in let r : (v : Verdict) × Means (length ks) (Outcome.ends to trees) v = (Verdict.stuck to, m) in r in
+      let front = λ (h : to ≢ length ks). let m : Means (length ks) (Outcome.ends to trees) (Verdict.stuck to) = (refl, h) in
+          let r : (v : Verdict) × Means (length ks) (Outcome.ends to trees) v = (Verdict.stuck to, m) in r in
       ⊎_elim (λ l. front (λ e. omega (arith, l, e)))
-      (λ l. ⊎_elim (λ m. front (λ e. omega (arith, m, e))) (λ m. let e : to ≡ length ks = omega (arith, l, m) in (Verdict.derived s.0, (e, s.1))) (cases_lt (length ks) to)) (cases_lt to (length ks))
+      (λ l. ⊎_elim (λ m. front (λ e. omega (arith, m, e))) (λ m. let e : to ≡ length ks = omega (arith, l, m)
+          in (Verdict.derived s.0, (e, s.1))) (cases_lt (length ks) to)) (cases_lt to (length ks))
   meaning (Outcome.stuck at) s = (Verdict.stuck at, refl)
   meaning (Outcome.deep at) s = (Verdict.deep at, refl)
 
   module _ (r : ℕ) where
     means_holds : (a : Outcome) (v : Verdict) → GivesProd g ks (Call r) 0 0 a → Means (length ks) a v → Holds g ks r v
-    means_holds (Outcome.ends to trees) (Verdict.derived t) of m = subst (λ (l : List ParseTree). GivesProd g ks (Call r) 0 0 (Outcome.ends (length ks) l)) m.1 (subst (λ (x : ℕ). GivesProd g ks (Call r) 0 0 (Outcome.ends x trees)) m.0 of)
+    means_holds (Outcome.ends to trees) (Verdict.derived t) of m = subst (λ (l : List ParseTree). GivesProd g ks (Call r) 0 0 (Outcome.ends (length ks) l)) m.1
+        (subst (λ (x : ℕ). GivesProd g ks (Call r) 0 0 (Outcome.ends x trees)) m.0 of)
     means_holds (Outcome.ends to trees) (Verdict.stuck at) of m = subst (λ (x : ℕ). Stuck g ks r x) m.0 (Stuck.behind to trees of m.1)
     means_holds (Outcome.ends to trees) (Verdict.deep at) of m = absurd m
     means_holds (Outcome.stuck x) (Verdict.derived t) of m = absurd m
@@ -105,19 +109,23 @@ module _ (g : Table) (ks : List ℕ) where
         record {
           it = v.0;
           holds = means_holds r k.0 v.0 k.1 v.1;
-          only = λ w h. let d = holds_given r w h in means_one (length ks) k.0 v.0 w v.1 (subst (λ (a : Outcome). Means (length ks) a w) (sym (start_only g fit ks r 0 0 inside d.0 d.1)) d.2);
+          only = λ w h. let d = holds_given r w h in means_one (length ks) k.0 v.0 w v.1 (subst (λ (a : Outcome). Means (length ks) a w) (sym
+              (start_only g fit ks r 0 0 inside d.0 d.1)) d.2);
         }
 
     -- what is computed for the start rule has this meaning
-    pub means_computed : (a : Outcome) → outcome_of (of_production g ks (λ q l from so_far m. whole g ks q l from so_far m) 0 (Some (Call r)) 0 [] 0) ≡ Some a → Means (length ks) a verdict.0
+    pub means_computed : (a : Outcome) → outcome_of (of_production g ks (λ q l from so_far m. whole g ks q l from so_far m) 0 (Some (Call r)) 0 [] 0) ≡ Some a
+        → Means (length ks) a verdict.0
     means_computed a e =
         let k = start_known g fit ks r 0 0 inside in
-        let s : Some k.0 ≡ Some a = sym (known_at (GivesProd g ks (Call r) 0 0) (λ done n. of_production g ks (λ q l from so_far m. whole g ks q l from so_far m) 0 (Some (Call r)) 0 done n) k 0) ∙ e in
+        let s : Some k.0 ≡ Some a = sym (known_at (GivesProd g ks (Call r) 0 0) (λ done n. of_production g ks
+            (λ q l from so_far m. whole g ks q l from so_far m) 0 (Some (Call r)) 0 done n) k 0) ∙ e in
         let same : k.0 ≡ a = cc in
         subst (λ (x : Outcome). Means (length ks) x verdict.0) same verdict.1
 
 -- a rule's outcome has the meaning that is computed from it
-ends_means : (len to : ℕ) (trees : List ParseTree) (tree : ParseTree) (whole : Bool) → (to == len) ≡ whole → trees ≡ tree ∷ [] → Means len (Outcome.ends to trees) (if whole then Verdict.derived (first_tree trees) else Verdict.stuck to)
+ends_means : (len to : ℕ) (trees : List ParseTree) (tree : ParseTree) (whole : Bool) → (to == len) ≡ whole → trees ≡ tree ∷ []
+    → Means len (Outcome.ends to trees) (if whole then Verdict.derived (first_tree trees) else Verdict.stuck to)
 ends_means len to trees tree true e s = (eqb-true to len e, s ∙ ap (λ (t : ParseTree). t ∷ []) (sym (ap (λ (l : List ParseTree). first_tree l) s)))
 ends_means len to trees tree false e s = (refl, eqb-false to len e)
 
@@ -130,12 +138,15 @@ pub computed_holds : (g : Table) (ks : List ℕ) (fit : IsFit g) (r : ℕ) (insi
 unfolding computed
 computed_holds g ks fit r inside =
     let k = start_known g fit ks r 0 0 inside in
-    let e = known_at (GivesProd g ks (Call r) 0 0) (λ done n. of_production g ks (λ q l from so_far m. whole g ks q l from so_far m) 0 (Some (Call r)) 0 done n) k 0 in
-    let h : Holds g ks r (verdict_of (length ks) (Some k.0)) = means_holds g ks r k.0 (verdict_of (length ks) (Some k.0)) k.1 (single_means (length ks) k.0 (call_single g ks r 0 0 k.0 k.1)) in
+    let e = known_at (GivesProd g ks (Call r) 0 0) (λ done n. of_production g ks (λ q l from so_far m. whole g ks q l from so_far m) 0 (Some
+        (Call r)) 0 done n) k 0 in
+    let h : Holds g ks r (verdict_of (length ks) (Some k.0)) = means_holds g ks r k.0 (verdict_of (length ks) (Some k.0)) k.1 (single_means (length ks) k.0
+        (call_single g ks r 0 0 k.0 k.1)) in
     subst (λ (o : Option Outcome). Holds g ks r (verdict_of (length ks) o)) (sym e) h
 
 -- what the parser answers for an outcome of the start rule
-pub tells_whole : (len to : ℕ) (trees : List ParseTree) (nodes : List Node) (v : Verdict) → Means len (Outcome.ends to trees) v → to ≡ len → slice_get trees (length trees - 1) ≡ Some (root_tree nodes) → Tells (Ok nodes) v
+pub tells_whole : (len to : ℕ) (trees : List ParseTree) (nodes : List Node) (v : Verdict) → Means len (Outcome.ends to trees) v → to ≡ len
+    → slice_get trees (length trees - 1) ≡ Some (root_tree nodes) → Tells (Ok nodes) v
 tells_whole len to trees nodes (Verdict.derived tree) m e r =
     let s : Some tree ≡ Some (root_tree nodes) = ap (λ (l : List ParseTree). slice_get l (length l - 1)) (sym m.1) ∙ r in
     let same : tree ≡ root_tree nodes = cc in sym same
@@ -163,7 +174,8 @@ pub record IsParsed (g : Table) (ks : List ℕ) (r : ℕ) (res : Result (List No
   pub err : IfErr res (IsFaultOf g ks r)
   pub only : (v : Verdict) → Holds g ks r v → Tells res v
 
-ok_of : (g : Table) (ks : List ℕ) (r : ℕ) (res : Result (List Node) ParseFault) (v : Verdict) → Holds g ks r v → Tells res v → IfOk res (λ t. Derives g ks r (root_tree t))
+ok_of : (g : Table) (ks : List ℕ) (r : ℕ) (res : Result (List Node) ParseFault) (v : Verdict) → Holds g ks r v → Tells res v
+    → IfOk res (λ t. Derives g ks r (root_tree t))
 ok_of g ks r (Ok nodes) (Verdict.derived tree) h t = subst (λ (x : ParseTree). Derives g ks r x) (sym t) h
 ok_of g ks r (Ok nodes) (Verdict.stuck at) h t = absurd t
 ok_of g ks r (Ok nodes) (Verdict.deep at) h t = absurd t
@@ -202,24 +214,31 @@ module _ (g : Table) (ks : List ℕ) (fit : IsFit g) (r : ℕ) (inside : r < len
       memory (Verdict.derived tree) = tt
       memory (Verdict.stuck at) = tt
       memory (Verdict.deep at) = tt
-  parsed_err (fault.Stuck x) trees m = parsed (Err (fault.Stuck x)) (tells_stuck (length ks) x (verdict g ks fit r inside).0 (means_computed g ks fit r inside (Outcome.stuck x) m))
-  parsed_err (fault.Deep x) trees m = parsed (Err (fault.Deep x)) (tells_deep (length ks) x (verdict g ks fit r inside).0 (means_computed g ks fit r inside (Outcome.deep x) m))
+  parsed_err (fault.Stuck x) trees m = parsed (Err (fault.Stuck x)) (tells_stuck (length ks) x (verdict g ks fit r inside).0 (means_computed g ks fit r inside
+      (Outcome.stuck x) m))
+  parsed_err (fault.Deep x) trees m = parsed (Err (fault.Deep x)) (tells_deep (length ks) x (verdict g ks fit r inside).0 (means_computed g ks fit r inside
+      (Outcome.deep x) m))
 
   pub parsed_front : (to : ℕ) (trees : List ParseTree) → Meets (Ok to) trees Computed → to ≢ length ks → IsParsed g ks r (Err (fault.Stuck to))
-  parsed_front to trees m e = parsed (Err (fault.Stuck to)) (tells_front (length ks) to trees (verdict g ks fit r inside).0 (means_computed g ks fit r inside (Outcome.ends to trees) m) e)
+  parsed_front to trees m e = parsed (Err (fault.Stuck to)) (tells_front (length ks) to trees (verdict g ks fit r inside).0 (means_computed g ks fit r inside
+      (Outcome.ends to trees) m) e)
 
-  pub parsed_whole : (to : ℕ) (trees : List ParseTree) (nodes : List Node) → Meets (Ok to) trees Computed → to ≡ length ks → slice_get trees (length trees - 1) ≡ Some (root_tree nodes) → IsParsed g ks r (Ok nodes)
-  parsed_whole to trees nodes m e root = parsed (Ok nodes) (tells_whole (length ks) to trees nodes (verdict g ks fit r inside).0 (means_computed g ks fit r inside (Outcome.ends to trees) m) e root)
+  pub parsed_whole : (to : ℕ) (trees : List ParseTree) (nodes : List Node) → Meets (Ok to) trees Computed → to ≡ length ks
+      → slice_get trees (length trees - 1) ≡ Some (root_tree nodes) → IsParsed g ks r (Ok nodes)
+  parsed_whole to trees nodes m e root = parsed (Ok nodes) (tells_whole (length ks) to trees nodes (verdict g ks fit r inside).0
+      (means_computed g ks fit r inside (Outcome.ends to trees) m) e root)
 
   -- there is a tree where the reading ended
   pub some_tree : (to : ℕ) (trees : List ParseTree) → Meets (Ok to) trees Computed → 0 < length trees
   some_tree to trees m =
       let k = start_known g fit ks r 0 0 inside in
-      let s : Some k.0 ≡ Some (Outcome.ends to trees) = sym (known_at (GivesProd g ks (Call r) 0 0) (λ done n. of_production g ks (λ q l from so_far i. whole g ks q l from so_far i) 0 (Some (Call r)) 0 done n) k 0) ∙ m in
+      let s : Some k.0 ≡ Some (Outcome.ends to trees) = sym (known_at (GivesProd g ks (Call r) 0 0) (λ done n. of_production g ks
+          (λ q l from so_far i. whole g ks q l from so_far i) 0 (Some (Call r)) 0 done n) k 0) ∙ m in
       let same : k.0 ≡ Outcome.ends to trees = cc in
       let one : IsSingle (Outcome.ends to trees) = subst (λ (a : Outcome). IsSingle a) same (call_single g ks r 0 0 k.0 k.1) in
       let e = ap (λ (l : List ParseTree). length l) one.1 in omega (arith, e)
 
-  pub parsed_tree : (to : ℕ) (trees : List ParseTree) (res : Result (List Node) ParseFault) → Meets (Ok to) trees Computed → to ≡ length ks → MatchResult res (λ t. slice_get trees (length trees - 1) ≡ Some (root_tree t)) (λ e. e ≡ fault.Memory) → IsParsed g ks r res
+  pub parsed_tree : (to : ℕ) (trees : List ParseTree) (res : Result (List Node) ParseFault) → Meets (Ok to) trees Computed → to ≡ length ks
+      → MatchResult res (λ t. slice_get trees (length trees - 1) ≡ Some (root_tree t)) (λ e. e ≡ fault.Memory) → IsParsed g ks r res
   parsed_tree to trees (Ok nodes) m e root = parsed_whole to trees nodes m e root
   parsed_tree to trees (Err x) m e root = rw root (parsed_err fault.Memory [] tt)

@@ -19,7 +19,8 @@ all_leaves (t ∷ ts) = leaves t ++ all_leaves ts
 
 all_leaves-append : (ts us : List ParseTree) → all_leaves (ts ++ us) ≡ all_leaves ts ++ all_leaves us
 all_leaves-append [] us = refl
-all_leaves-append (t ∷ ts) us = ap (λ (l : List (ℕ × ℕ)). leaves t ++ l) (all_leaves-append ts us) ∙ sym (append_assoc (leaves t) (all_leaves ts) (all_leaves us))
+all_leaves-append (t ∷ ts) us = ap (λ (l : List (ℕ × ℕ)). leaves t ++ l) (all_leaves-append ts us)
+    ∙ sym (append_assoc (leaves t) (all_leaves ts) (all_leaves us))
 
 row_leaves-row_of : (ts : List ParseTree) → row_leaves (row_of ts) ≡ all_leaves ts
 row_leaves-row_of [] = refl
@@ -36,8 +37,10 @@ kind_is (Some j) k e = let same : j ≡ k = grind (arith, nat_tests) in ap (λ (
 
 rest_at : (i : ℕ) (ks : List ℕ) (at k : ℕ) → slice_get ks at ≡ Some k → drop at (numbered i ks) ≡ (k, i + at) ∷ drop (suc at) (numbered i ks)
 rest_at i [] at k e = (cc)
-rest_at i (x ∷ xs) zero k e = let same : x ≡ k = cc in let z : i ≡ i + 0 = omega arith in ap (λ (y : ℕ). (y, i) ∷ numbered (suc i) xs) same ∙ ap (λ (j : ℕ). (k, j) ∷ numbered (suc i) xs) z
-rest_at i (x ∷ xs) (suc at) k e = let z : suc i + at ≡ i + suc at = omega arith in rest_at (suc i) xs at k e ∙ ap (λ (j : ℕ). (k, j) ∷ drop (suc at) (numbered (suc i) xs)) z
+rest_at i (x ∷ xs) zero k e = let same : x ≡ k = cc in let z : i ≡ i + 0 = omega arith in ap (λ (y : ℕ). (y, i) ∷ numbered (suc i) xs) same
+    ∙ ap (λ (j : ℕ). (k, j) ∷ numbered (suc i) xs) z
+rest_at i (x ∷ xs) (suc at) k e = let z : suc i + at ≡ i + suc at = omega arith in rest_at (suc i) xs at k e ∙ ap (λ (j : ℕ). (k, j)
+    ∷ drop (suc at) (numbered (suc i) xs)) z
 
 length-numbered : (i : ℕ) (ks : List ℕ) → length (numbered i ks) ≡ length ks
 length-numbered i [] = refl
@@ -49,8 +52,10 @@ Spans ks at (Outcome.ends to trees) = rest ks at ≡ all_leaves trees ++ rest ks
 Spans ks at (Outcome.stuck x) = Unit {0}
 Spans ks at (Outcome.deep x) = Unit {0}
 
-spans_then : (ks : List ℕ) (at to : ℕ) (trees : List ParseTree) (a : Outcome) → Spans ks at (Outcome.ends to trees) → Spans ks to a → Spans ks at (before trees a)
-spans_then ks at to trees (Outcome.ends x more) h k = h ∙ ap (λ (l : List (ℕ × ℕ)). all_leaves trees ++ l) k ∙ sym (append_assoc (all_leaves trees) (all_leaves more) (rest ks x)) ∙ ap (λ (l : List (ℕ × ℕ)). l ++ rest ks x) (sym (all_leaves-append trees more))
+spans_then : (ks : List ℕ) (at to : ℕ) (trees : List ParseTree) (a : Outcome) → Spans ks at (Outcome.ends to trees) → Spans ks to a
+    → Spans ks at (before trees a)
+spans_then ks at to trees (Outcome.ends x more) h k = h ∙ ap (λ (l : List (ℕ × ℕ)). all_leaves trees ++ l) k
+    ∙ sym (append_assoc (all_leaves trees) (all_leaves more) (rest ks x)) ∙ ap (λ (l : List (ℕ × ℕ)). l ++ rest ks x) (sym (all_leaves-append trees more))
 spans_then ks at to trees (Outcome.stuck x) h k = tt
 spans_then ks at to trees (Outcome.deep x) h k = tt
 
@@ -60,7 +65,8 @@ spans_stop ks at (Outcome.stuck x) s = tt
 spans_stop ks at (Outcome.deep x) s = tt
 
 spans_below : (ks : List ℕ) (at r : ℕ) (a : Outcome) → Spans ks at a → Spans ks at (below_rule r a)
-spans_below ks at r (Outcome.ends to trees) h = h ∙ ap (λ (l : List (ℕ × ℕ)). l ++ rest ks to) (sym (append-nil (row_leaves (row_of trees)) ∙ row_leaves-row_of trees))
+spans_below ks at r (Outcome.ends to trees) h = h ∙ ap (λ (l : List (ℕ × ℕ)). l ++ rest ks to) (sym (append-nil (row_leaves (row_of trees))
+    ∙ row_leaves-row_of trees))
 spans_below ks at r (Outcome.stuck x) h = tt
 spans_below ks at r (Outcome.deep x) h = tt
 
@@ -73,7 +79,8 @@ module _ (g : Table) (ks : List ℕ) where
     spans _ _ _ _ (Gives.production p level at x a e of) = spans_prod x level at a of
 
     spans_prod : (x : Prod) (level at : ℕ) (a : Outcome) → GivesProd g ks x level at a → Spans ks at a
-    spans_prod _ _ _ _ (GivesProd.token k level at e) = let z : suc at ≡ at + 1 = omega arith in rest_at 0 ks at k (kind_is (slice_get ks at) k e) ∙ ap (λ (j : ℕ). (k, j) ∷ rest ks (suc at)) (zero_at at) ∙ ap (λ (j : ℕ). (k, at) ∷ rest ks j) z
+    spans_prod _ _ _ _ (GivesProd.token k level at e) = let z : suc at ≡ at + 1 = omega arith in rest_at 0 ks at k (kind_is (slice_get ks at) k e)
+        ∙ ap (λ (j : ℕ). (k, j) ∷ rest ks (suc at)) (zero_at at) ∙ ap (λ (j : ℕ). (k, at) ∷ rest ks j) z
     spans_prod _ _ _ _ (GivesProd.no_token k level at e) = tt
     spans_prod _ _ _ _ (GivesProd.rule r rule level inner at a e f of) = spans_below ks at r a (spans rule.to inner at a of)
     spans_prod _ _ _ _ (GivesProd.too_deep r rule level at e f) = tt
@@ -84,12 +91,14 @@ module _ (g : Table) (ks : List ℕ) where
 
     spans_all : (ps : List ℕ) (level at : ℕ) (a : Outcome) → GivesAll g ks ps level at a → Spans ks at a
     spans_all _ _ _ _ (GivesAll.all_done level at) = refl
-    spans_all _ _ _ _ (GivesAll.then p ps level at to trees a of all) = spans_then ks at to trees a (spans p level at (Outcome.ends to trees) of) (spans_all ps level to a all)
+    spans_all _ _ _ _ (GivesAll.then p ps level at to trees a of all) = spans_then ks at to trees a (spans p level at (Outcome.ends to trees) of)
+        (spans_all ps level to a all)
     spans_all _ _ _ _ (GivesAll.stop p ps level at a of s) = spans_stop ks at a s
 
     spans_times : (firsts : List ℕ) (q level at : ℕ) (a : Outcome) → GivesTimes g ks firsts q level at a → Spans ks at a
     spans_times _ _ _ _ _ (GivesTimes.no_more firsts q level at e) = refl
-    spans_times _ _ _ _ _ (GivesTimes.once_more firsts q level at to trees a e of all) = spans_then ks at to trees a (spans q level at (Outcome.ends to trees) of) (spans_times firsts q level to a all)
+    spans_times _ _ _ _ _ (GivesTimes.once_more firsts q level at to trees a e of all) = spans_then ks at to trees a (spans q level at
+        (Outcome.ends to trees) of) (spans_times firsts q level to a all)
     spans_times _ _ _ _ _ (GivesTimes.stop_in firsts q level at a e of s) = spans_stop ks at a s
 
   -- the leaves of the tree of a whole list are its tokens
@@ -132,12 +141,14 @@ module _ (g : Table) (ks : List ℕ) where
 
     inside_all : (ps : List ℕ) (level at : ℕ) (a : Outcome) → GivesAll g ks ps level at a → at ≤ length ks → IsInside (length ks) a
     inside_all _ _ _ _ (GivesAll.all_done level at) h = h
-    inside_all _ _ _ _ (GivesAll.then p ps level at to trees a of all) h = inside_before (length ks) trees a (inside_all ps level to a all (inside p level at (Outcome.ends to trees) of h))
+    inside_all _ _ _ _ (GivesAll.then p ps level at to trees a of all) h = inside_before (length ks) trees a (inside_all ps level to a all (inside p level at
+        (Outcome.ends to trees) of h))
     inside_all _ _ _ _ (GivesAll.stop p ps level at a of s) h = inside p level at a of h
 
     inside_times : (firsts : List ℕ) (q level at : ℕ) (a : Outcome) → GivesTimes g ks firsts q level at a → at ≤ length ks → IsInside (length ks) a
     inside_times _ _ _ _ _ (GivesTimes.no_more firsts q level at e) h = h
-    inside_times _ _ _ _ _ (GivesTimes.once_more firsts q level at to trees a e of all) h = inside_before (length ks) trees a (inside_times firsts q level to a all (inside q level at (Outcome.ends to trees) of h))
+    inside_times _ _ _ _ _ (GivesTimes.once_more firsts q level at to trees a e of all) h = inside_before (length ks) trees a
+        (inside_times firsts q level to a all (inside q level at (Outcome.ends to trees) of h))
     inside_times _ _ _ _ _ (GivesTimes.stop_in firsts q level at a e of s) h = inside q level at a of h
 
   stuck_within : (r at : ℕ) → Stuck g ks r at → at ≤ length ks

@@ -20,7 +20,8 @@ take_within limit front rest le =
     ap (λ n. take n (front ++ rest)) (sym e) ∙ take-append-add front rest (limit - length front)
 
 -- the commands that end in a front within the limit are among those that are played
-pub fronted : StaysEnded → (limit : ℕ) (front rest : List ℕ) → length front ≤ limit → (more : List Cut) × ((of_input_within limit (front ++ rest)).bytes ≡ (play start (ended front ++ more)).bytes)
+pub fronted : StaysEnded → (limit : ℕ) (front rest : List ℕ) → length front ≤ limit → (more : List Cut) × ((of_input_within limit (front
+    ++ rest)).bytes ≡ (play start (ended front ++ more)).bytes)
 fronted stays limit front rest le = by_test (is_too_long limit (front ++ rest))
   where
     by_test : (t : Bool) → (more : List Cut) × ((by_length limit (front ++ rest) t).bytes ≡ (play start (ended front ++ more)).bytes)
@@ -32,12 +33,15 @@ fronted stays limit front rest le = by_test (is_too_long limit (front ++ rest))
         (longer.0, ap (λ l. (play start l).bytes) longer.1)
 
 -- a command that ends in such a front ends the run
-pub over_ending : StaysEnded → (limit : ℕ) (front rest : List ℕ) → length front ≤ limit → (play start (ended front)).over ≡ true → of_input_within limit (front ++ rest) ≡ ending (play start (ended front)).bytes Done
+pub over_ending : StaysEnded → (limit : ℕ) (front rest : List ℕ) → length front ≤ limit → (play start (ended front)).over ≡ true → of_input_within limit (front
+    ++ rest) ≡ ending (play start (ended front)).bytes Done
 over_ending stays limit front rest le over =
     let near = (stays front (take (limit - length front) rest)).0 in
     let far = (stays front rest).1 in
-    let within : play_within limit (front ++ rest) ≡ play start (ended front) = ap (play start) (ap ended (take_within limit front rest le) ∙ near.1) ∙ play_over start (ended front) near.0 over in
-    let short : is_too_long limit (front ++ rest) ≡ false = not_over (nat_lt limit (length (front ++ rest))) (play_within limit (front ++ rest)).over (ap (λ p. p.over) within ∙ over) in
+    let within : play_within limit (front ++ rest) ≡ play start (ended front) = ap (play start) (ap ended (take_within limit front rest le) ∙ near.1)
+        ∙ play_over start (ended front) near.0 over in
+    let short : is_too_long limit (front ++ rest) ≡ false = not_over (nat_lt limit (length (front ++ rest))) (play_within limit (front
+        ++ rest)).over (ap (λ p. p.over) within ∙ over) in
     let whole : play start (cuts (front ++ rest)) ≡ play start (ended front) = ap (play start) far.1 ∙ play_over start (ended front) far.0 over in
     ap (by_length limit (front ++ rest)) short ∙ ap (λ p. ending p.bytes Done) whole
   where
@@ -46,7 +50,8 @@ over_ending stays limit front rest le over =
     not_over false true h = refl
     not_over t false h = absurd (cc)
 
-pub past_ending : (limit : ℕ) (input : List ℕ) → limit < length input → (play_within limit input).over ≡ false → of_input_within limit input ≡ ending (play_within limit input).bytes TooLong
+pub past_ending : (limit : ℕ) (input : List ℕ) → limit < length input → (play_within limit input).over ≡ false
+    → of_input_within limit input ≡ ending (play_within limit input).bytes TooLong
 past_ending limit input long on = ap (by_length limit input) (both (nat_lt limit (length input)) (play_within limit input).over past on)
   where
     past : nat_lt limit (length input) ≡ true

@@ -21,16 +21,19 @@ appends_kept (Some x) (Some y) None xs h k = absurd k
 appends_kept (Some x) (Some y) (Some z) xs h k = rw k h
 
 -- one front after another
-appends_more : (a b c : Option (List ℕ)) (bytes : List ℕ) (m n : ℕ) → Appends a b (take m bytes) → Appends b c (take n (drop m bytes)) → Appends a c (take (m + n) bytes)
+appends_more : (a b c : Option (List ℕ)) (bytes : List ℕ) (m n : ℕ) → Appends a b (take m bytes) → Appends b c (take n (drop m bytes))
+    → Appends a c (take (m + n) bytes)
 appends_more a b c bytes m n h k = rw (take-add m n bytes) (appends_then a b c (take m bytes) (take n (drop m bytes)) h k)
 
 -- the same, as the code reads the rest
-pub appends_rest : (a b c : Option (List ℕ)) (bytes : List ℕ) (m n : ℕ) → Appends a b (take m bytes) → Appends b c (take n (take (length bytes - m) (drop m bytes))) → Appends a c (take (m + n) bytes)
+pub appends_rest : (a b c : Option (List ℕ)) (bytes : List ℕ) (m n : ℕ) → Appends a b (take m bytes)
+    → Appends b c (take n (take (length bytes - m) (drop m bytes))) → Appends a c (take (m + n) bytes)
 appends_rest a b c bytes m n h k = appends_more a b c bytes m n h (rw (take_rest bytes m) at k)
 
 -- a fault leaves a front
 pub front_kept : (a b c : Option (List ℕ)) (bytes : List ℕ) (at : ℕ) → Appends a b (take at bytes) → Keeps b c → AppendsFront a c bytes
-front_kept a b c bytes at h k = record { front = take at bytes; rest = drop at bytes; whole = sym (take-append-drop at bytes); written = appends_kept a b c (take at bytes) h k }
+front_kept a b c bytes at h k = record { front = take at bytes; rest = drop at bytes; whole = sym (take-append-drop at bytes); written = appends_kept a b c
+    (take at bytes) h k }
 
 -- bytes, and then a front
 pub front_after : (a b c : Option (List ℕ)) (xs ys : List ℕ) → Appends a b xs → AppendsFront b c ys → AppendsFront a c (xs ++ ys)

@@ -18,7 +18,8 @@ play_over m [] ys h = absurd (cc)
 play_over m (x ∷ xs) ys h = by_turn (play_over (step m x).machine xs ys) (ends_run (step m x).turn) h
   where
     by_turn : ((play (step m x).machine xs).over ≡ true → play (step m x).machine (xs ++ ys) ≡ play (step m x).machine xs)
-        → (t : Bool) → (behind t (step m x).machine xs).over ≡ true → after (step m x).bytes (behind t (step m x).machine (xs ++ ys)) ≡ after (step m x).bytes (behind t (step m x).machine xs)
+        → (t : Bool) → (behind t (step m x).machine xs).over ≡ true → after (step m x).bytes (behind t (step m x).machine (xs
+            ++ ys)) ≡ after (step m x).bytes (behind t (step m x).machine xs)
     by_turn more true h = refl
     by_turn more false h = ap (after (step m x).bytes) (more h)
 
@@ -30,11 +31,14 @@ pub play_on : (m : Machine) (xs ys : List Cut) → (play m xs).over ≡ false �
 play_on m [] ys h = refl
 play_on m (x ∷ xs) ys h = by_turn (play_on (step m x).machine xs ys) (ends_run (step m x).turn) h
   where
-    by_turn : ((play (step m x).machine xs).over ≡ false → play (step m x).machine (xs ++ ys) ≡ after (play (step m x).machine xs).bytes (play (play (step m x).machine xs).machine ys))
+    by_turn : ((play (step m x).machine xs).over ≡ false → play (step m x).machine (xs ++ ys) ≡ after (play (step m x).machine xs).bytes (play (play
+        (step m x).machine xs).machine ys))
         → (t : Bool) → (behind t (step m x).machine xs).over ≡ false
-        → after (step m x).bytes (behind t (step m x).machine (xs ++ ys)) ≡ after ((step m x).bytes ++ (behind t (step m x).machine xs).bytes) (play (behind t (step m x).machine xs).machine ys)
+        → after (step m x).bytes (behind t (step m x).machine (xs ++ ys)) ≡ after ((step m x).bytes
+            ++ (behind t (step m x).machine xs).bytes) (play (behind t (step m x).machine xs).machine ys)
     by_turn more true h = absurd (cc)
-    by_turn more false h = ap (after (step m x).bytes) (more h) ∙ after_after (step m x).bytes (play (step m x).machine xs).bytes (play (play (step m x).machine xs).machine ys)
+    by_turn more false h = ap (after (step m x).bytes) (more h) ∙ after_after (step m x).bytes (play (step m x).machine xs).bytes (play (play
+        (step m x).machine xs).machine ys)
 
 -- more commands write more
 pub play_front : (m : Machine) (xs ys : List Cut) → (rest : List ℕ) × ((play m (xs ++ ys)).bytes ≡ (play m xs).bytes ++ rest)
@@ -57,7 +61,8 @@ append_cancel [] ys zs h = h
 append_cancel (x ∷ xs) ys zs h = append_cancel xs ys zs (cc)
 
 -- a fault while the answers to a piece are written leaves a front of them
-pub piece_front : (m : Machine) (bytes piece out : List ℕ) (found : List Cut) (old new : Option (List ℕ)) → ended (bytes ++ piece) ≡ ended bytes ++ found → out ≡ (play m found).bytes → AppendsFront old new out → PlaysFront m bytes piece old new
+pub piece_front : (m : Machine) (bytes piece out : List ℕ) (found : List Cut) (old new : Option (List ℕ)) → ended (bytes ++ piece) ≡ ended bytes ++ found
+    → out ≡ (play m found).bytes → AppendsFront old new out → PlaysFront m bytes piece old new
 piece_front m bytes piece out found old new is out_is front more rest is_more =
     let same : found ≡ more = append_cancel (ended bytes) found more (sym is ∙ is_more) in
     let longer = play_front m more rest in

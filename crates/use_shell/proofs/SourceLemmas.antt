@@ -23,7 +23,8 @@ done_whole limit None now old new w = tt
 done_whole limit (Some input) None old new w = absurd w.from
 done_whole limit (Some input) (Some ys) old new w =
     let all : w.taken ≡ input = sym (w.from ∙ ap (λ l. w.taken ++ l) w.end ∙ append-nil w.taken) in
-    let is : ending (play start (cuts w.taken)).bytes Done ≡ of_input_within limit input = sym (whole_ending limit w.taken w.within) ∙ ap (of_input_within limit) all in
+    let is : ending (play start (cuts w.taken)).bytes Done ≡ of_input_within limit input = sym (whole_ending limit w.taken w.within)
+        ∙ ap (of_input_within limit) all in
     subst (λ e. EndsWith e Done old new) is (record { same = refl; written = w.written })
 
 done_ended : StaysEnded → (limit : ℕ) (left now old new : Option (List ℕ)) → IsEnded limit left now old new → Run limit left old new (Ok Done)
@@ -31,7 +32,8 @@ done_ended stays limit None now old new w = tt
 done_ended stays limit (Some input) None old new w = absurd w.taken
 done_ended stays limit (Some input) (Some ys) old new w =
     let all : (w.before ++ w.front) ++ (w.rest ++ ys) ≡ input = sym (w.taken ∙ regroup w.before w.front w.rest ys) in
-    let is : ending (play start (ended (w.before ++ w.front))).bytes Done ≡ of_input_within limit input = sym (over_ending stays limit (w.before ++ w.front) (w.rest ++ ys) w.within w.over) ∙ ap (of_input_within limit) all in
+    let is : ending (play start (ended (w.before ++ w.front))).bytes Done ≡ of_input_within limit input = sym (over_ending stays limit (w.before
+        ++ w.front) (w.rest ++ ys) w.within w.over) ∙ ap (of_input_within limit) all in
     subst (λ e. EndsWith e Done old new) is (record { same = refl; written = w.written })
   where
     regroup : (w x y z : List ℕ) → (w ++ (x ++ y)) ++ z ≡ (w ++ x) ++ (y ++ z)
@@ -44,7 +46,8 @@ past_run limit (Some input) (Some ys) old new w =
     let more = within_more limit w.taken ys w.past in
     let long : limit < length (w.taken ++ ys) = omega (arith, w.past, length-append w.taken ys) in
     let goes : (play_within limit (w.taken ++ ys)).over ≡ false = ap (λ p. p.over) more ∙ w.goes_on in
-    let is : ending (play_within limit w.taken).bytes TooLong ≡ of_input_within limit input = ap (λ p. ending p.bytes TooLong) (sym more) ∙ sym (past_ending limit (w.taken ++ ys) long goes) ∙ ap (of_input_within limit) (sym w.from) in
+    let is : ending (play_within limit w.taken).bytes TooLong ≡ of_input_within limit input = ap (λ p. ending p.bytes TooLong) (sym more)
+        ∙ sym (past_ending limit (w.taken ++ ys) long goes) ∙ ap (of_input_within limit) (sym w.from) in
     subst (λ e. EndsWith e TooLong old new) is (record { same = refl; written = w.written })
 
 cut_run : StaysEnded → (limit : ℕ) (left now old new : Option (List ℕ)) → IsCutOff limit left now old new → Run limit left old new (Err Read)
@@ -65,7 +68,8 @@ stopped_run limit None now old new stop w = tt
 stopped_run limit (Some input) None old new stop w = absurd w.from
 stopped_run limit (Some input) (Some ys) old new stop w = subst (λ l. AppendsFront old new (of_input_within limit l).bytes) (sym w.from) (w.written ys refl)
 
-pub streamed : StaysEnded → (limit : ℕ) (left now old new : Option (List ℕ)) (r : Result Status Stop) → Streams limit left now old new r → Run limit left old new r
+pub streamed : StaysEnded → (limit : ℕ) (left now old new : Option (List ℕ)) (r : Result Status Stop) → Streams limit left now old new r
+    → Run limit left old new r
 streamed stays limit left now old new (Ok Done) h = ⊎_elim (done_whole limit left now old new) (done_ended stays limit left now old new) h
 streamed stays limit left now old new (Ok TooLong) h = past_run limit left now old new h
 streamed stays limit left now old new (Ok Usage) h = absurd h
@@ -80,11 +84,13 @@ streamed stays limit left now old new (Err Wanting) h = stopped_run limit left n
 status_by : (limit : ℕ) (input : List ℕ) (status : Status) → (of_input_within limit input).status ≡ status → HasLimitCause limit status input
 status_by limit input status same = by_test (is_too_long limit input) refl same
   where
-    by_test : (t : Bool) → is_too_long limit input ≡ t → (if t then ending (play_within limit input).bytes TooLong else ending (play start (cuts input)).bytes Done).status ≡ status → HasLimitCause limit status input
+    by_test : (t : Bool) → is_too_long limit input ≡ t → (if t then ending (play_within limit input).bytes TooLong else ending (play start
+        (cuts input)).bytes Done).status ≡ status → HasLimitCause limit status input
     by_test true is h = record { only = λ k. is; within = λ k. absurd (cc) }
     by_test false is h = record { only = λ k. absurd (cc); within = λ k. is }
 
-pub run_length : (limit : ℕ) (left old new : Option (List ℕ)) (r : Result Status Stop) → Run limit left old new r → IfSome left (λ input. IfOk r (λ status. HasLimitCause limit status input))
+pub run_length : (limit : ℕ) (left old new : Option (List ℕ)) (r : Result Status Stop) → Run limit left old new r
+    → IfSome left (λ input. IfOk r (λ status. HasLimitCause limit status input))
 run_length limit None old new r h = tt
 run_length limit (Some input) old new (Ok status) h = status_by limit input status h.same
 run_length limit (Some input) old new (Err stop) h = tt
@@ -100,7 +106,8 @@ run_played limit left now old new (Ok Memory) h = h
 run_played limit left now old new (Err stop) h = tt
 
 taken_by : (limit : ℕ) (left now old new : Option (List ℕ)) → IsWhole limit left now old new ⊎ IsEnded limit left now old new → IsTaken left now
-taken_by limit left now old new h = ⊎_elim (λ w. inl w.end) (λ w. inr (record { before = w.before; front = w.front; rest = w.rest; taken = w.taken; goes_on = w.goes_on; over = w.over })) h
+taken_by limit left now old new h = ⊎_elim (λ w. inl w.end) (λ w. inr (record { before = w.before; front = w.front; rest = w.rest; taken = w.taken; goes_on =
+    w.goes_on; over = w.over })) h
 
 pub run_taken : (limit : ℕ) (left now old new : Option (List ℕ)) (r : Result Status Stop) → Streams limit left now old new r → FinishesTaken left now r
 run_taken limit left now old new (Ok Done) h = λ k. taken_by limit left now old new h
@@ -112,7 +119,8 @@ run_taken limit left now old new (Ok WriteFault) h = absurd h
 run_taken limit left now old new (Ok Memory) h = absurd h
 run_taken limit left now old new (Err stop) h = tt
 
-pub run_fault : (limit : ℕ) (left now old new : Option (List ℕ)) (r : Result Status Stop) → Streams limit left now old new r → r ≡ Err Read → AnswersTaken left now old new
+pub run_fault : (limit : ℕ) (left now old new : Option (List ℕ)) (r : Result Status Stop) → Streams limit left now old new r → r ≡ Err Read
+    → AnswersTaken left now old new
 run_fault limit left now old new (Err Read) h k = record { taken = h.taken; from = h.from; written = h.written }
 run_fault limit left now old new (Err Write) h k = absurd (cc)
 run_fault limit left now old new (Err Wanting) h k = absurd (cc)
@@ -123,7 +131,8 @@ stopped : (e : Ending) (a : Option (List ℕ)) (r : Result Status Stop) → IsEr
 stopped e a (Ok status) h = (cc)
 stopped e a (Err stop) h = front_of_none a e.bytes
 
-pub stopped_early : (files : Option Files) (left : Option (List ℕ)) (words : List (List ℕ)) (a : Option (List ℕ)) (r : Result Status Stop) → IsErr r → IfSome files (λ held. IfSome left (λ input. Finishes (output words held input) a a r))
+pub stopped_early : (files : Option Files) (left : Option (List ℕ)) (words : List (List ℕ)) (a : Option (List ℕ)) (r : Result Status Stop) → IsErr r
+    → IfSome files (λ held. IfSome left (λ input. Finishes (output words held input) a a r))
 stopped_early None left words a r h = tt
 stopped_early (Some held) None words a r h = tt
 stopped_early (Some held) (Some input) words a r h = stopped (output words held input) a r h

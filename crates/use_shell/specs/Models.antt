@@ -7,6 +7,8 @@ use Rattle.use_text.specs.Codes.{code_of}
 use Rattle.use_text.specs.declared.place.Place.{Place}
 use Rattle.use_text.specs.Places.{place_at}
 use Rattle.use_text.specs.Refusals.{refusal_at}
+use Rattle.use_text.specs.declared.token.Token.{Token}
+use Rattle.grammar_core.specs.Trees.{ParseTree}
 use Rattle.use_syntax.specs.Reading.{Reading, parsed, refused, read_model}
 use Rattle.use_nodes.specs.Nodes.{place_of_first}
 use Rattle.class_decls.specs.declared.decls.Decls.{Decls}
@@ -26,8 +28,11 @@ abbrev pub refusal_of_decls : Place → Decls → Option Refusal
 refusal_of_decls place ds = option_or (broken_rule ds) (if has_unbuilt_parts ds then unbuilt place else None)
 
 -- the place of what is not built is that of the first token
+abbrev pub refusal_of_parsed : List ℕ → List Token → ParseTree → Option Refusal
+refusal_of_parsed text ts tree = refusal_of_decls (place_of_first 1 ts) (decls_of text ts tree)
+
 abbrev pub refusal_of_reading : List ℕ → Reading → Option Refusal
-refusal_of_reading text (parsed ts tree) = refusal_of_decls (place_of_first 1 ts) (decls_of text ts tree)
+refusal_of_reading text (parsed ts tree) = refusal_of_parsed text ts tree
 refusal_of_reading text (refused r) = Some r
 
 -- why a model of this text is refused, if it is: a rule of tokens, of the grammar or of declarations is broken, or something is not built yet

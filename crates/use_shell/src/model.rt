@@ -5,9 +5,7 @@ ghost use Rattle.use_text.specs.Refusals.{refusal_at};
 ghost use Rattle.use_text.specs.Tokens.{IsWithin};
 ghost use Rattle.grammar_core.specs.Arena.{root_tree};
 ghost use Rattle.use_syntax.specs.Language.{language};
-ghost use Rattle.use_nodes.specs.Nodes.{place_of_first};
-ghost use Rattle.use_decls.specs.Declarations.{decls_of};
-ghost use Rattle.use_shell.specs.Models.{max_model, refusal_of_decls, unbuilt, refusal_of_text, model_refusal};
+ghost use Rattle.use_shell.specs.Models.{max_model, refusal_of_decls, refusal_of_parsed, unbuilt, refusal_of_text, model_refusal};
 ghost use Rattle.use_shell.specs.Stops.{StopsByRead};
 
 use crate::stop::Stop;
@@ -40,7 +38,7 @@ fn refusal_of_decls(alloc: Global, place: Place, decls: &Decls) -> Result<Option
 /// Why a model that was read is refused, if it is.
 fn refusal_of_parsed(alloc: Global, parsed: &Parsed) -> Result<Option<Refusal>, Stop>
     requires { All (IsWithin (length parsed.now.text)) parsed.now.tokens }
-    ensures refusal { IfOk result (λ refusal. refusal ≡ refusal_of_decls (place_of_first 1 parsed.now.tokens) (decls_of parsed.now.text parsed.now.tokens (root_tree parsed.now.tree))) }
+    ensures refusal { IfOk result (λ refusal. refusal ≡ refusal_of_parsed parsed.now.text parsed.now.tokens (root_tree parsed.now.tree)) }
     ensures memory { IsOkUnless result Stop.Memory }
 {
     match decls(alloc, parsed) {

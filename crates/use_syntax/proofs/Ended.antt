@@ -80,9 +80,11 @@ abbrev are_others : {A : Type 0} → List (A × TokenKind) → Bool
 are_others [] = true
 are_others (row ∷ rows) = both (is_other (number_of row.1)) (are_others rows)
 
-kind_other : {A : Type 0} (rows : List (A × TokenKind)) (text : A → List ℕ) (word : List ℕ) → are_others rows ≡ true → is_other (number_of (kind_among rows text word)) ≡ true
+kind_other : {A : Type 0} (rows : List (A × TokenKind)) (text : A → List ℕ) (word : List ℕ) → are_others rows ≡ true
+    → is_other (number_of (kind_among rows text word)) ≡ true
 kind_other [] text word h = refl
-kind_other (row ∷ rows) text word h = by_row (same_text word (text row.0)) row.1 (kind_among rows text word) (both_left _ _ h) (kind_other rows text word (both_right _ _ h))
+kind_other (row ∷ rows) text word h = by_row (same_text word (text row.0)) row.1 (kind_among rows text word) (both_left _ _ h) (kind_other rows text word
+    (both_right _ _ h))
   where
     by_row : (t : Bool) (a b : TokenKind) → is_other (number_of a) ≡ true → is_other (number_of b) ≡ true → is_other (number_of (cond t a b)) ≡ true
     by_row true a b h k = h
@@ -90,7 +92,8 @@ kind_other (row ∷ rows) text word h = by_row (same_text word (text row.0)) row
 
 symbol_other : {A : Type 0} (rows : List (A × TokenKind)) (text : A → List ℕ) (bytes : List ℕ) → are_others rows ≡ true → IsOther (symbol_among rows text bytes)
 symbol_other [] text bytes h = tt
-symbol_other (row ∷ rows) text bytes h = by_test (begins bytes (text row.0)) (Token row.1 (length (text row.0))) (symbol_among rows text bytes) (both_left _ _ h) (symbol_other rows text bytes (both_right _ _ h))
+symbol_other (row ∷ rows) text bytes h = by_test (begins bytes (text row.0)) (Token row.1 (length (text row.0))) (symbol_among rows text bytes)
+    (both_left _ _ h) (symbol_other rows text bytes (both_right _ _ h))
 
 word_other : (word : List ℕ) → is_other (number_of (word_kind word)) ≡ true
 unfolding word_kind
@@ -103,7 +106,8 @@ symbols_other bytes = symbol_other SYMBOLS (λ t. t.now) bytes refl
 mark_other : (bytes : List ℕ) → IsOther (mark_piece bytes)
 mark_other bytes =
     by_test (begins bytes (codes "--") || begins bytes (codes "//")) (White (length (take_while is_in_line bytes))) _ tt
-    (by_test (begins bytes (codes "/*")) (comment_piece (drop 2 bytes)) (symbol_piece bytes) (by_option (λ n. White n) (comment_end 2 false (drop 2 bytes)) (code_of L 4) (λ n. tt)) (symbols_other bytes))
+    (by_test (begins bytes (codes "/*")) (comment_piece (drop 2 bytes)) (symbol_piece bytes) (by_option (λ n. White n) (comment_end 2 false (drop 2 bytes))
+        (code_of L 4) (λ n. tt)) (symbols_other bytes))
 
 piece_other : (bytes : List ℕ) → IsOther (piece_of bytes)
 piece_other [] = tt
@@ -112,10 +116,12 @@ piece_other (b ∷ rest) =
     let digits = take_while is_digit (b ∷ rest) in
     let tag = take_while is_name_byte rest in
     by_test (is_white b) (White (white_length (b ∷ rest))) _ tt
-    (by_test (is_letter b) (word_piece word) _ (by_test (nat_le (length word) 64) (Token (word_kind word) (length word)) (Bad (code_of L 5)) (word_other word) tt)
+    (by_test (is_letter b) (word_piece word) _ (by_test (nat_le (length word) 64) (Token (word_kind word) (length word)) (Bad (code_of L 5))
+        (word_other word) tt)
     (by_test (is_digit b) (number_piece digits) _ (by_test (is_some (number_of_digits digits)) (Token Int (length digits)) (Bad (code_of L 3)) refl tt)
     (by_test (b == 39) (string_piece rest) _ (by_option (λ n. Token Str n) (string_end 1 false rest) (code_of L 4) (λ n. refl))
-    (by_test (b == 64) (at_piece tag) (mark_piece (b ∷ rest)) (by_test (same_text tag (codes "pre")) (Token AtPre (length tag + 1)) (Bad (code_of L 2)) refl tt) (mark_other (b ∷ rest))))))
+    (by_test (b == 64) (at_piece tag) (mark_piece (b ∷ rest)) (by_test (same_text tag (codes "pre")) (Token AtPre (length tag + 1)) (Bad (code_of L 2)) refl tt)
+        (mark_other (b ∷ rest))))))
 
 -- tokens whose kinds are such
 abbrev IsEnded : Tokens → Type 0
@@ -133,14 +139,17 @@ before_ended t (Err r) h e = tt
 end_ended : (end : TokenAt) → end.kind ≡ 0 → is_ended (kinds (end ∷ [])) ≡ true
 end_ended end e = subst (λ (k : ℕ). is_ended (k ∷ []) ≡ true) (sym e) refl
 
-reading_ended : (p : Piece) (at : ℕ) (place : Place) (end : TokenAt) (more : ℕ → TokenAt → Tokens) → IsOther p → end.kind ≡ 0 → ((s : ℕ) (e : TokenAt) → e.kind ≡ 0 → IsEnded (more s e)) → IsEnded (reading p at place end more)
+reading_ended : (p : Piece) (at : ℕ) (place : Place) (end : TokenAt) (more : ℕ → TokenAt → Tokens) → IsOther p → end.kind ≡ 0 → ((s : ℕ) (e : TokenAt)
+    → e.kind ≡ 0 → IsEnded (more s e)) → IsEnded (reading p at place end more)
 reading_ended (White k) at place end more other is h = h (k - 1) end is
-reading_ended (Token kind k) at place end more other is h = before_ended (token_at kind at (at + k) place) (more (k - 1) (token_at End (at + k) (at + k) (place_at place.line (place.col + k)))) other (h (k - 1) (token_at End (at + k) (at + k) (place_at place.line (place.col + k))) refl)
+reading_ended (Token kind k) at place end more other is h = before_ended (token_at kind at (at + k) place) (more (k - 1) (token_at End (at + k) (at + k)
+    (place_at place.line (place.col + k)))) other (h (k - 1) (token_at End (at + k) (at + k) (place_at place.line (place.col + k))) refl)
 reading_ended (Bad code) at place end more other is h = tt
 
 from_ended : (skip at : ℕ) (place : Place) (end : TokenAt) (xs : List ℕ) → end.kind ≡ 0 → IsEnded (tokens_from skip at place end xs)
 from_ended skip at place end [] is = end_ended end is
-from_ended zero at place end (b ∷ rest) is = reading_ended (piece_of (b ∷ rest)) at place end (λ skip end. tokens_from skip (at + 1) (behind place b) end rest) (piece_other (b ∷ rest)) is (λ s e h. from_ended s (at + 1) (behind place b) e rest h)
+from_ended zero at place end (b ∷ rest) is = reading_ended (piece_of (b ∷ rest)) at place end (λ skip end. tokens_from skip (at + 1) (behind place b) end rest)
+    (piece_other (b ∷ rest)) is (λ s e h. from_ended s (at + 1) (behind place b) e rest h)
 from_ended (suc skip) at place end (b ∷ rest) is = from_ended skip (at + 1) (behind place b) end rest is
 
 choice_ended : (t : Bool) (given : Tokens) (r : Refusal) → IsEnded given → IsEnded (cond t given (Err r))
@@ -148,7 +157,8 @@ choice_ended true given r h = h
 choice_ended false given r h = tt
 
 tokens_ended : (first_line : ℕ) (text : List ℕ) → IsEnded (tokens first_line text)
-tokens_ended first_line text = choice_ended (utf8_valid_len text == length text) (tokens_of_utf8 first_line text) _ (from_ended 0 0 (place_at first_line 1) (token_at End 0 0 (place_at first_line 1)) text refl)
+tokens_ended first_line text = choice_ended (utf8_valid_len text == length text) (tokens_of_utf8 first_line text) _ (from_ended 0 0 (place_at first_line 1)
+    (token_at End 0 0 (place_at first_line 1)) text refl)
 
 pub end_of_tokens : (first_line : ℕ) (text : List ℕ) (ts : List TokenAt) → tokens first_line text ≡ Ok ts → (last : ℕ) × EndsAt (kinds ts) last
 end_of_tokens first_line text ts e = end_of (kinds ts) (subst (λ (m : Tokens). IsEnded m) e (tokens_ended first_line text))

@@ -33,7 +33,8 @@ told_deep ts x (deep at) h = ap (λ (n : ℕ). refused (refusal_at (code_of S 2)
 -- what the parser told of the language's table, by names that are equal to these
 module _ (g : Table) (ts same : List Token) (start n : ℕ) (is : g ≡ language) (alike : same ≡ ts) (of : n ≡ start) where
   of_language : (r : Result (List Node) ParseFault) → Tells r (verdict g (kinds same) n) → Tells r (verdict language (kinds ts) start)
-  of_language r h = subst (λ (t : Table). Tells r (verdict t (kinds ts) start)) is (subst (λ (l : List Token). Tells r (verdict g (kinds l) start)) alike (subst (λ (k : ℕ). Tells r (verdict g (kinds same) k)) of h))
+  of_language r h = subst (λ (t : Table). Tells r (verdict t (kinds ts) start)) is (subst (λ (l : List Token). Tells r (verdict g (kinds l) start)) alike (subst
+      (λ (k : ℕ). Tells r (verdict g (kinds same) k)) of h))
 
   pub read_tree : (nodes : List Node) → Tells (Ok nodes) (verdict g (kinds same) n) → read_tokens start ts ≡ parsed ts (root_tree nodes)
   unfolding read_tokens

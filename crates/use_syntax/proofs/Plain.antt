@@ -98,8 +98,10 @@ module _ (g : Table) (plain : ℕ → Bool) where
 
   plain_from : (i : ℕ) (xs : List Prod) → are_plain i xs ≡ true → (k : ℕ) (x : Prod) → slice_get xs k ≡ Some x → plain (k + i) ≡ true → has_plain x ≡ true
   plain_from i [] e k x at is = (cc)
-  plain_from i (y ∷ ys) e zero x at is = let s : y ≡ x = cc in let z : 0 + i ≡ i = omega arith in subst (λ (p : Prod). has_plain p ≡ true) s (here i y (both_left _ _ e) (subst (λ (n : ℕ). plain n ≡ true) z is))
-  plain_from i (y ∷ ys) e (suc k) x at is = let z : suc k + i ≡ k + suc i = omega arith in plain_from (suc i) ys (both_right _ _ e) k x at (subst (λ (n : ℕ). plain n ≡ true) z is)
+  plain_from i (y ∷ ys) e zero x at is = let s : y ≡ x = cc in let z : 0 + i ≡ i = omega arith
+      in subst (λ (p : Prod). has_plain p ≡ true) s (here i y (both_left _ _ e) (subst (λ (n : ℕ). plain n ≡ true) z is))
+  plain_from i (y ∷ ys) e (suc k) x at is = let z : suc k + i ≡ k + suc i = omega arith in plain_from (suc i) ys (both_right _ _ e) k x at (subst (λ
+      (n : ℕ). plain n ≡ true) z is)
 
   module _ (all : are_plain 0 g.prods ≡ true) (ks : List ℕ) (last : ℕ) (end : EndsAt ks last) where
     plain_at : (p : ℕ) (x : Prod) → slice_get g.prods p ≡ Some x → plain p ≡ true → has_plain x ≡ true
@@ -114,7 +116,8 @@ module _ (g : Table) (plain : ℕ → Bool) where
     token_inside (suc k) at e is =
         let within : at < length ks = slice_get_within ks at (suc k) e in
         let long = end.long in
-        ⊎_elim (λ (lt : at < last). omega (arith, lt)) (λ (le : last ≤ at). let same : at ≡ last = omega (arith, within, long, le) in let there : slice_get ks at ≡ Some 0 = subst (λ (n : ℕ). slice_get ks n ≡ Some 0) (sym same) end.there in absurd (cc)) (cases_lt at last)
+        ⊎_elim (λ (lt : at < last). omega (arith, lt)) (λ (le : last ≤ at). let same : at ≡ last = omega (arith, within, long, le) in
+            let there : slice_get ks at ≡ Some 0 = subst (λ (n : ℕ). slice_get ks n ≡ Some 0) (sym same) end.there in absurd (cc)) (cases_lt at last)
 
     mutual
       inside : (p level at : ℕ) (a : Outcome) → Gives g ks p level at a → plain p ≡ true → at ≤ last → IsInside last a
@@ -126,23 +129,27 @@ module _ (g : Table) (plain : ℕ → Bool) where
       inside_prod _ _ _ _ (GivesProd.rule r rule level inner at a e f of) is h = inside_below last r a (inside rule.to inner at a of (rule_plain r rule e is) h)
       inside_prod _ _ _ _ (GivesProd.too_deep r rule level at e f) is h = h
       inside_prod _ _ _ _ (GivesProd.parts ps level at a all) is h = inside_all ps level at a all is h
-      inside_prod _ _ _ _ (GivesProd.branch bs other q level at a e of) is h = inside q level at a of (every_in plain (choices bs other) is q (branch_in ks at q bs other e)) h
+      inside_prod _ _ _ _ (GivesProd.branch bs other q level at a e of) is h = inside q level at a of (every_in plain (choices bs other) is q
+          (branch_in ks at q bs other e)) h
       inside_prod _ _ _ _ (GivesProd.no_branch bs other level at e) is h = h
       inside_prod _ _ _ _ (GivesProd.times firsts q level at a all) is h = inside_times firsts q level at a all is h
 
       inside_all : (ps : List ℕ) (level at : ℕ) (a : Outcome) → GivesAll g ks ps level at a → every plain ps ≡ true → at ≤ last → IsInside last a
       inside_all _ _ _ _ (GivesAll.all_done level at) is h = h
-      inside_all _ _ _ _ (GivesAll.then p ps level at to trees a of all) is h = inside_before last trees a (inside_all ps level to a all (both_right (plain p) (every plain ps) is) (inside p level at (Outcome.ends to trees) of (both_left (plain p) (every plain ps) is) h))
+      inside_all _ _ _ _ (GivesAll.then p ps level at to trees a of all) is h = inside_before last trees a (inside_all ps level to a all (both_right (plain p)
+          (every plain ps) is) (inside p level at (Outcome.ends to trees) of (both_left (plain p) (every plain ps) is) h))
       inside_all _ _ _ _ (GivesAll.stop p ps level at a of s) is h = inside p level at a of (both_left (plain p) (every plain ps) is) h
 
       inside_times : (firsts : List ℕ) (q level at : ℕ) (a : Outcome) → GivesTimes g ks firsts q level at a → plain q ≡ true → at ≤ last → IsInside last a
       inside_times _ _ _ _ _ (GivesTimes.no_more firsts q level at e) is h = h
-      inside_times _ _ _ _ _ (GivesTimes.once_more firsts q level at to trees a e of all) is h = inside_before last trees a (inside_times firsts q level to a all is (inside q level at (Outcome.ends to trees) of is h))
+      inside_times _ _ _ _ _ (GivesTimes.once_more firsts q level at to trees a e of all) is h = inside_before last trees a
+          (inside_times firsts q level to a all is (inside q level at (Outcome.ends to trees) of is h))
       inside_times _ _ _ _ _ (GivesTimes.stop_in firsts q level at a e of s) is h = inside q level at a of is h
 
     module _ (first : slice_get g.prods 0 ≡ Some (Tok 0)) where
       end_prod : (k level at : ℕ) (a : Outcome) → GivesProd g ks (Tok k) level at a → k ≡ 0 → at ≤ last → IsEnding last a
-      end_prod _ _ _ _ (GivesProd.token k level at e) z h = let same : at ≡ last = end.only at (subst (λ (n : ℕ). slice_get ks at ≡ Some n) z (kind_is (slice_get ks at) k e)) in ap (λ (n : ℕ). n + 1) same
+      end_prod _ _ _ _ (GivesProd.token k level at e) z h = let same : at ≡ last = end.only at (subst (λ (n : ℕ). slice_get ks at ≡ Some n) z (kind_is
+          (slice_get ks at) k e)) in ap (λ (n : ℕ). n + 1) same
       end_prod _ _ _ _ (GivesProd.no_token k level at e) z h = h
 
       end_gives : (p level at : ℕ) (a : Outcome) → Gives g ks p level at a → p ≡ 0 → at ≤ last → IsEnding last a
@@ -156,11 +163,16 @@ module _ (g : Table) (plain : ℕ → Bool) where
       nothing_behind _ _ _ _ (GivesAll.then p ps level at to trees a of all) is h = (cc)
       nothing_behind _ _ _ _ (GivesAll.stop p ps level at a of s) is h = (cc)
 
-      then_closing : (p : ℕ) (ps : List ℕ) (level at to : ℕ) (trees : List ParseTree) (a : Outcome) → Gives g ks p level at (Outcome.ends to trees) → GivesAll g ks ps level to a → are_closed (p ∷ ps) ≡ true → at ≤ last → (are_closed ps ≡ true → to ≤ last → IsEnding last a) → IsEnding last (before trees a)
-      then_closing zero ps level at to trees a of all is h later = ending_before last trees a (nothing_behind ps level to a all is (end_gives 0 level at (Outcome.ends to trees) of refl h))
-      then_closing (suc p) ps level at to trees a of all is h later = ending_before last trees a (later (both_right (plain (suc p)) (are_closed ps) is) (inside (suc p) level at (Outcome.ends to trees) of (both_left (plain (suc p)) (are_closed ps) is) h))
+      then_closing : (p : ℕ) (ps : List ℕ) (level at to : ℕ) (trees : List ParseTree) (a : Outcome) → Gives g ks p level at (Outcome.ends to trees)
+          → GivesAll g ks ps level to a → are_closed (p ∷ ps) ≡ true → at ≤ last → (are_closed ps ≡ true → to ≤ last → IsEnding last a)
+          → IsEnding last (before trees a)
+      then_closing zero ps level at to trees a of all is h later = ending_before last trees a (nothing_behind ps level to a all is (end_gives 0 level at
+          (Outcome.ends to trees) of refl h))
+      then_closing (suc p) ps level at to trees a of all is h later = ending_before last trees a (later (both_right (plain (suc p)) (are_closed ps) is) (inside
+          (suc p) level at (Outcome.ends to trees) of (both_left (plain (suc p)) (are_closed ps) is) h))
 
-      stop_closing : (p : ℕ) (ps : List ℕ) (level at : ℕ) (a : Outcome) → Gives g ks p level at a → Stops a → are_closed (p ∷ ps) ≡ true → at ≤ last → IsEnding last a
+      stop_closing : (p : ℕ) (ps : List ℕ) (level at : ℕ) (a : Outcome) → Gives g ks p level at a → Stops a → are_closed (p ∷ ps) ≡ true → at ≤ last
+          → IsEnding last a
       stop_closing zero ps level at a of s is h = end_gives 0 level at a of refl h
       stop_closing (suc p) ps level at a of s is h = ending_stop last a s (inside (suc p) level at a of (both_left (plain (suc p)) (are_closed ps) is) h)
 
@@ -183,7 +195,8 @@ module _ (g : Table) (plain : ℕ → Bool) where
       body_gives _ _ _ _ (Gives.production p level at x a e of) is h = body_prod x level at a of (subst (λ (o : Option Prod). closes o ≡ true) e is) h
 
       start_gives : (r level at : ℕ) (a : Outcome) → GivesProd g ks (Call r) level at a → rule_closes (slice_get g.rules r) ≡ true → at ≤ last → IsEnding last a
-      start_gives _ _ _ _ (GivesProd.rule r rule level inner at a e f of) is h = ending_below last r a (body_gives rule.to inner at a of (subst (λ (o : Option ℕ). rule_closes o ≡ true) (rule_at-to g r rule e) is) h)
+      start_gives _ _ _ _ (GivesProd.rule r rule level inner at a e f of) is h = ending_below last r a (body_gives rule.to inner at a of (subst (λ
+          (o : Option ℕ). rule_closes o ≡ true) (rule_at-to g r rule e) is) h)
       start_gives _ _ _ _ (GivesProd.too_deep r rule level at e f) is h = h
 
       module _ (r : ℕ) (is : rule_closes (slice_get g.rules r) ≡ true) where

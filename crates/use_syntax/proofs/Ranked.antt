@@ -31,7 +31,8 @@ every test (q ∷ qs) = both (test q) (every test qs)
 
 pub every_in : (test : ℕ → Bool) (qs : List ℕ) → every test qs ≡ true → (q : ℕ) → IsIn q qs → test q ≡ true
 every_in test [] e q i = absurd i
-every_in test (x ∷ xs) e q i = ⊎_elim (λ same. subst (λ (n : ℕ). test n ≡ true) (sym same) (both_left (test x) (every test xs) e)) (λ later. every_in test xs (both_right (test x) (every test xs) e) q later) i
+every_in test (x ∷ xs) e q i = ⊎_elim (λ same. subst (λ (n : ℕ). test n ≡ true) (sym same) (both_left (test x) (every test xs) e)) (λ later. every_in test xs
+    (both_right (test x) (every test xs) e) q later) i
 
 -- a test of some number, from the left
 abbrev pub some : (ℕ → Bool) → List ℕ → Bool
@@ -100,15 +101,19 @@ module _ (g : Table) where
   module _ (rank : ℕ → ℕ) (all : are_ranked rank 0 g.prods ≡ true) where
     ranked_from : (i : ℕ) (xs : List Prod) → are_ranked rank i xs ≡ true → (k : ℕ) (x : Prod) → slice_get xs k ≡ Some x → is_ranked rank (k + i) x ≡ true
     ranked_from i [] e k x at = (cc)
-    ranked_from i (y ∷ ys) e zero x at = let s : y ≡ x = cc in subst (λ (n : ℕ). is_ranked rank n x ≡ true) (omega arith) (subst (λ (z : Prod). is_ranked rank i z ≡ true) s (both_left (is_ranked rank i y) (are_ranked rank (suc i) ys) e))
-    ranked_from i (y ∷ ys) e (suc k) x at = subst (λ (n : ℕ). is_ranked rank n x ≡ true) (omega arith) (ranked_from (suc i) ys (both_right (is_ranked rank i y) (are_ranked rank (suc i) ys) e) k x at)
+    ranked_from i (y ∷ ys) e zero x at = let s : y ≡ x = cc in subst (λ (n : ℕ). is_ranked rank n x ≡ true) (omega arith) (subst (λ
+        (z : Prod). is_ranked rank i z ≡ true) s (both_left (is_ranked rank i y) (are_ranked rank (suc i) ys) e))
+    ranked_from i (y ∷ ys) e (suc k) x at = subst (λ (n : ℕ). is_ranked rank n x ≡ true) (omega arith) (ranked_from (suc i) ys (both_right (is_ranked rank i y)
+        (are_ranked rank (suc i) ys) e) k x at)
 
     ranked_at : (p : ℕ) (x : Prod) → slice_get g.prods p ≡ Some x → is_ranked rank p x ≡ true
     ranked_at p x at = subst (λ (n : ℕ). is_ranked rank n x ≡ true) (omega arith) (ranked_from 0 g.prods all p x at)
 
     -- a part of the production at p has a smaller rank, and is there
-    part_in : (p : ℕ) (x : Prod) → slice_get g.prods p ≡ Some x → (q : ℕ) → IsIn q (next_prods true g x) → both (nat_lt (rank q) (rank p)) (nat_lt q (length g.prods)) ≡ true
-    part_in p x at q i = every_in (λ n. both (nat_lt (rank n) (rank p)) (nat_lt n (length g.prods))) (next_prods true g x) (both_left (every (λ n. both (nat_lt (rank n) (rank p)) (nat_lt n (length g.prods))) (next_prods true g x)) (is_safe x) (ranked_at p x at)) q i
+    part_in : (p : ℕ) (x : Prod) → slice_get g.prods p ≡ Some x → (q : ℕ) → IsIn q (next_prods true g x)
+        → both (nat_lt (rank q) (rank p)) (nat_lt q (length g.prods)) ≡ true
+    part_in p x at q i = every_in (λ n. both (nat_lt (rank n) (rank p)) (nat_lt n (length g.prods))) (next_prods true g x) (both_left (every (λ n. both (nat_lt
+        (rank n) (rank p)) (nat_lt n (length g.prods))) (next_prods true g x)) (is_safe x) (ranked_at p x at)) q i
 
     part_less : (p : ℕ) (x : Prod) → slice_get g.prods p ≡ Some x → (q : ℕ) → IsIn q (next_prods true g x) → rank q < rank p
     part_less p x at q i = ltb-true (rank q) (rank p) (both_left (nat_lt (rank q) (rank p)) (nat_lt q (length g.prods)) (part_in p x at q i))
@@ -129,8 +134,10 @@ module _ (g : Table) where
     with_calls false (Star firsts p) q i = i
 
     -- a step of the graph leaves from a production
-    next_row : (calls : Bool) (p : ℕ) (o : Option Prod) → slice_get g.prods p ≡ o → next (graph_of calls g) p ≡ places_of (option_map (λ x. next_prods calls g x) o)
-    next_row calls p o e = ap (λ (l : Option (List ℕ)). places_of l) (slice_get-map (λ x. next_prods calls g x) g.prods p ∙ ap (λ (v : Option Prod). option_map (λ x. next_prods calls g x) v) e)
+    next_row : (calls : Bool) (p : ℕ) (o : Option Prod) → slice_get g.prods p ≡ o → next (graph_of calls g) p ≡ places_of (option_map
+        (λ x. next_prods calls g x) o)
+    next_row calls p o e = ap (λ (l : Option (List ℕ)). places_of l) (slice_get-map (λ x. next_prods calls g x) g.prods p
+        ∙ ap (λ (v : Option Prod). option_map (λ x. next_prods calls g x) v) e)
 
     step_less : (calls : Bool) (p q : ℕ) → IsIn q (next (graph_of calls g) p) → rank q < rank p
     step_less calls p q i = here (slice_get g.prods p) refl

@@ -20,7 +20,8 @@ use Rattle.use_syntax.proofs.Plain.{are_plain, rule_closes, stuck_inside, deep_i
 
 -- all but the token `End` and the two rules for whole texts
 abbrev plain : ℕ → Bool
-plain n = not ((n == 0) || (n == place_of (RuleOf r.File)) || (n == place_of (RuleOf r.Command)) || (n == place_of (Production p.File)) || (n == place_of (Production p.Command)))
+plain n = not ((n == 0) || (n == place_of (RuleOf r.File)) || (n == place_of (RuleOf r.Command)) || (n == place_of (Production p.File))
+    || (n == place_of (Production p.Command)))
 
 all_plain : are_plain language plain 0 language.prods ≡ true
 unfolding token_prods call_prods type_prods expression_prods statement_prods command_prods model_prods all_prods bodies language
@@ -38,14 +39,18 @@ command_closes : rule_closes language plain (slice_get language.rules (number_of
 unfolding token_prods call_prods type_prods expression_prods statement_prods command_prods model_prods all_prods bodies language
 command_closes = refl
 
-module _ (start : Rule) (there : number_of_rule start < length language.rules) (closed : rule_closes language plain (slice_get language.rules (number_of_rule start)) ≡ true) where
+module _ (start : Rule) (there : number_of_rule start < length language.rules) (closed : rule_closes language plain (slice_get language.rules
+    (number_of_rule start)) ≡ true) where
   standing : (ts : List Token) (last : ℕ) → EndsAt (kinds ts) last → (v : Verdict) → Holds language (kinds ts) (number_of_rule start) v → StandsAtToken ts v
   standing ts last end (derived tree) h = tt
-  standing ts last end (stuck at) h = subst (λ (n : ℕ). at < n) (length-map ts (λ (t : Token). t.kind)) (stuck_inside language plain all_plain (kinds ts) last end end_first (number_of_rule start) closed at h)
-  standing ts last end (deep at) h = subst (λ (n : ℕ). at < n) (length-map ts (λ (t : Token). t.kind)) (deep_inside language plain all_plain (kinds ts) last end end_first (number_of_rule start) closed at h)
+  standing ts last end (stuck at) h = subst (λ (n : ℕ). at < n) (length-map ts (λ (t : Token). t.kind)) (stuck_inside language plain all_plain
+      (kinds ts) last end end_first (number_of_rule start) closed at h)
+  standing ts last end (deep at) h = subst (λ (n : ℕ). at < n) (length-map ts (λ (t : Token). t.kind)) (deep_inside language plain all_plain
+      (kinds ts) last end end_first (number_of_rule start) closed at h)
 
   stand : RefusalsStandAtTokens start
-  stand first_line text ts e = let end = end_of_tokens first_line text ts e in standing ts end.0 end.1 (verdict language (kinds ts) (number_of_rule start)) (computed_holds language (kinds ts) is_fit (number_of_rule start) there)
+  stand first_line text ts e = let end = end_of_tokens first_line text ts e in standing ts end.0 end.1 (verdict language (kinds ts) (number_of_rule start))
+      (computed_holds language (kinds ts) is_fit (number_of_rule start) there)
 
 pub model_stands : RefusalsStandAtTokens r.File
 model_stands = stand r.File (omega (arith, rules_there)) model_closes

@@ -44,7 +44,8 @@ unique text (n ∷ ns) (m ∷ ms) a b =
     let rest : ns ≡ ms = unique (drop n text) ns ms a.1 (subst P (sym e) b.1) in
     ap (λ k. k ∷ ns) e ∙ ap (λ l. m ∷ l) rest
 
-exist_by : (text : List ℕ) → ((n : ℕ) → 0 < n → n ≤ length text → (ns : List ℕ) × HasLexemes (drop n text) ns) → Front text (piece_of text) → (ns : List ℕ) × HasLexemes text ns
+exist_by : (text : List ℕ) → ((n : ℕ) → 0 < n → n ≤ length text → (ns : List ℕ) × HasLexemes (drop n text) ns) → Front text (piece_of text)
+    → (ns : List ℕ) × HasLexemes text ns
 exist_by text more (nothing none bad) = ([], none)
 exist_by text more (lexeme n is piece sized) = let rest = more n (longest_some text n is) is.within in (n ∷ rest.0, (is, rest.1))
 
@@ -56,7 +57,8 @@ pub exist : LexemesExist
 exist text = exist_within (length text) text (omega arith)
 
 -- the front of bytes that have a longest lexeme
-piece_is : (bytes : List ℕ) (n : ℕ) → IsLongest bytes n → Front bytes (piece_of bytes) → (piece_of bytes ≡ lexeme_piece (take n bytes)) × IsSized n (piece_of bytes)
+piece_is : (bytes : List ℕ) (n : ℕ) → IsLongest bytes n → Front bytes (piece_of bytes) → (piece_of bytes ≡ lexeme_piece (take n bytes)) × IsSized n
+    (piece_of bytes)
 piece_is bytes n is (nothing none bad) = absurd (none_longest bytes n none is)
 piece_is bytes n is (lexeme m is_m piece sized) =
     let e = same_length bytes m n is_m is in
@@ -67,19 +69,23 @@ bad_is : (bytes : List ℕ) → HasNoLexeme bytes → Front bytes (piece_of byte
 bad_is bytes none (nothing other bad) = bad
 bad_is bytes none (lexeme n is piece sized) = absurd (none_longest bytes n none is)
 
-read_lexeme : (bytes ns : List ℕ) (n at : ℕ) (place : Place) (end : TokenAt) (piece : Piece) → 0 < n → n ≤ length bytes → piece_of bytes ≡ piece → IsSized n piece
-    → ((end : TokenAt) → tokens_from 0 (at + n) (behind_all place (take n bytes)) end (drop n bytes) ≡ lexeme_tokens (at + n) (behind_all place (take n bytes)) end (drop n bytes) ns)
+read_lexeme : (bytes ns : List ℕ) (n at : ℕ) (place : Place) (end : TokenAt) (piece : Piece) → 0 < n → n ≤ length bytes → piece_of bytes ≡ piece
+    → IsSized n piece
+    → ((end : TokenAt) → tokens_from 0 (at + n) (behind_all place (take n bytes)) end (drop n bytes) ≡ lexeme_tokens (at + n) (behind_all place
+        (take n bytes)) end (drop n bytes) ns)
     → tokens_from 0 at place end bytes ≡ reading piece at place end (λ skip end. lexeme_tokens (at + n) (behind_all place (take n bytes)) end (drop n bytes) ns)
 read_lexeme bytes ns n at place end (White k) some within is sized more = white_read n at place end bytes some within (is ∙ ap White sized) ∙ more end
 read_lexeme bytes ns n at place end (Token kind k) some within is sized more =
     token_read kind n at place end bytes some within (is ∙ ap (Token kind) sized) ∙ ap (before (token_at kind at (at + n) place)) (more _) ∙ rw sized refl
 read_lexeme bytes ns n at place end (Bad code) some within is sized more = bad_read code at place end bytes (omega arith) is
 
-read_end : (bytes : List ℕ) (at : ℕ) (place : Place) (end : TokenAt) → HasNoLexeme bytes → tokens_from 0 at place end bytes ≡ lexeme_tokens at place end bytes []
+read_end : (bytes : List ℕ) (at : ℕ) (place : Place) (end : TokenAt) → HasNoLexeme bytes → tokens_from 0 at place end bytes ≡ lexeme_tokens at place end bytes
+    []
 read_end [] at place end none = refl
 read_end (b ∷ rest) at place end none = bad_read (broken_code (b ∷ rest)) at place end (b ∷ rest) (omega arith) (bad_is (b ∷ rest) none (front (b ∷ rest)))
 
-read_all : (bytes ns : List ℕ) (at : ℕ) (place : Place) (end : TokenAt) → HasLexemes bytes ns → tokens_from 0 at place end bytes ≡ lexeme_tokens at place end bytes ns
+read_all : (bytes ns : List ℕ) (at : ℕ) (place : Place) (end : TokenAt) → HasLexemes bytes ns
+    → tokens_from 0 at place end bytes ≡ lexeme_tokens at place end bytes ns
 read_all bytes [] at place end has = read_end bytes at place end has
 read_all bytes (n ∷ ns) at place end has =
     let is = piece_is bytes n has.0 (front bytes) in

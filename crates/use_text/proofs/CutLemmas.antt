@@ -12,7 +12,8 @@ use Rattle.use_text.specs.KeepingSteps.{extended, ended_cuts, kept_after, finish
 use Rattle.use_text.proofs.LineLemmas.{glue, ended_go_on, ended_same, open_more, ended_feed, open_feed, range_more, lines_some, lines_none}
 use Rattle.use_text.proofs.KeepingLemmas.{extended_of, ended_of, after_of, finished_of}
 
-pub cuts_append : (n : ℕ) (b : Option Block) (xs ys : List (List ℕ)) → lines_cuts n b (xs ++ ys) ≡ lines_cuts n b xs ++ lines_cuts (n + length xs) (open_block n b xs) ys
+pub cuts_append : (n : ℕ) (b : Option Block) (xs ys : List (List ℕ)) → lines_cuts n b (xs ++ ys) ≡ lines_cuts n b xs
+    ++ lines_cuts (n + length xs) (open_block n b xs) ys
 cuts_append n b [] ys = let e : n + 0 ≡ n = omega arith in rw e refl
 cuts_append n b (x ∷ xs) ys =
     let e : n + length (x ∷ xs) ≡ n + 1 + length xs = omega arith in
@@ -32,7 +33,8 @@ goes_on c on more line kept_is count_is waiting_is bytes stands =
     record {
       stands = record {
         count = count_is ∙ stands.count ∙ ap length (sym same);
-        kept = kept_is ∙ ap (λ k. extended k more) stands.kept ∙ extended_of b (open_line bytes) more ∙ ap (kept_of b) (sym (open_more bytes more line)) ∙ ap (λ ls. kept_of (open_block 1 None ls) (open_line (bytes ++ more))) (sym same);
+        kept = kept_is ∙ ap (λ k. extended k more) stands.kept ∙ extended_of b (open_line bytes) more ∙ ap (kept_of b) (sym (open_more bytes more line))
+            ∙ ap (λ ls. kept_of (open_block 1 None ls) (open_line (bytes ++ more))) (sym same);
       };
       more = [];
       commands = ap (lines_cuts 1 None) same ∙ sym (append-nil (ended bytes));
@@ -40,22 +42,27 @@ goes_on c on more line kept_is count_is waiting_is bytes stands =
     }
 
 -- at a line feed
-pub ends_line : (on new : Cutting) → new.kept ≡ kept_after (on.count + 1) on.kept.block on.kept → new.count ≡ on.count + 1 → new.waiting ≡ on.waiting ++ ended_cuts (on.count + 1) on.kept.block on.kept → IsFed on (10 ∷ []) new
+pub ends_line : (on new : Cutting) → new.kept ≡ kept_after (on.count + 1) on.kept.block on.kept → new.count ≡ on.count + 1 → new.waiting ≡ on.waiting
+    ++ ended_cuts (on.count + 1) on.kept.block on.kept → IsFed on (10 ∷ []) new
 ends_line on new kept_is count_is waiting_is bytes stands =
     let es = ended_lines bytes in
     let line = open_line bytes in
     let b = open_block 1 None es in
     let n : on.count + 1 ≡ 1 + length es = omega (arith, stands.count) in
-    let found : ended_cuts (on.count + 1) on.kept.block on.kept ≡ line_cuts (1 + length es) b line = ap (λ k. ended_cuts (on.count + 1) k.block k) stands.kept ∙ ap (λ m. ended_cuts m (option_map kept_block b) (kept_of b line)) n ∙ ended_of (1 + length es) b line in
-    let after : kept_after (on.count + 1) on.kept.block on.kept ≡ kept_of (block_after (1 + length es) b line) [] = ap (λ k. kept_after (on.count + 1) k.block k) stands.kept ∙ ap (λ m. kept_after m (option_map kept_block b) (kept_of b line)) n ∙ after_of (1 + length es) b line in
+    let found : ended_cuts (on.count + 1) on.kept.block on.kept ≡ line_cuts (1 + length es) b line = ap (λ k. ended_cuts (on.count + 1) k.block k) stands.kept
+        ∙ ap (λ m. ended_cuts m (option_map kept_block b) (kept_of b line)) n ∙ ended_of (1 + length es) b line in
+    let after : kept_after (on.count + 1) on.kept.block on.kept ≡ kept_of (block_after (1 + length es) b line) [] = ap (λ k. kept_after
+        (on.count + 1) k.block k) stands.kept ∙ ap (λ m. kept_after m (option_map kept_block b) (kept_of b line)) n ∙ after_of (1 + length es) b line in
     let block : open_block 1 None (es ++ line ∷ []) ≡ block_after (1 + length es) b line = block_append 1 None es (line ∷ []) in
     record {
       stands = record {
         count = count_is ∙ omega (arith, stands.count, ap length (ended_feed bytes), length-append es (line ∷ []));
-        kept = kept_is ∙ after ∙ ap (λ x. kept_of x []) (sym block) ∙ ap (λ ls. kept_of (open_block 1 None ls) []) (sym (ended_feed bytes)) ∙ ap (kept_of (open_block 1 None (ended_lines (bytes ++ 10 ∷ [])))) (sym (open_feed bytes));
+        kept = kept_is ∙ after ∙ ap (λ x. kept_of x []) (sym block) ∙ ap (λ ls. kept_of (open_block 1 None ls) []) (sym (ended_feed bytes))
+            ∙ ap (kept_of (open_block 1 None (ended_lines (bytes ++ 10 ∷ [])))) (sym (open_feed bytes));
       };
       more = line_cuts (1 + length es) b line;
-      commands = ap (lines_cuts 1 None) (ended_feed bytes) ∙ cuts_append 1 None es (line ∷ []) ∙ ap (λ x. ended bytes ++ x) (append-nil (line_cuts (1 + length es) b line));
+      commands = ap (lines_cuts 1 None) (ended_feed bytes) ∙ cuts_append 1 None es (line ∷ []) ∙ ap (λ x. ended bytes
+          ++ x) (append-nil (line_cuts (1 + length es) b line));
       waiting = waiting_is ∙ ap (λ x. on.waiting ++ x) found;
     }
 
@@ -82,15 +89,18 @@ fed_none c bytes stands =
       waiting = sym (append-nil c.waiting);
     }
 
-pub fed_range : (old c new : Cutting) (piece : List ℕ) (at end : ℕ) → at ≤ end → IsFed old (take at piece) c → IsFed c (slice_range piece at end) new → IsFed old (take end piece) new
+pub fed_range : (old c new : Cutting) (piece : List ℕ) (at end : ℕ) → at ≤ end → IsFed old (take at piece) c → IsFed c (slice_range piece at end) new
+    → IsFed old (take end piece) new
 fed_range old c new piece at end le first second =
     let e : at + (end - at) ≡ end = omega arith in
     let whole : take end piece ≡ take at piece ++ slice_range piece at end = ap (λ n. take n piece) (sym e) ∙ take-add at (end - at) piece in
     rw whole (fed_then old c new (take at piece) (slice_range piece at end) first second)
 
-pub fed_line : (old c on new : Cutting) (piece : List ℕ) (at end : ℕ) → at ≤ end → end < length piece → slice_index piece end ≡ 10 → IsFed old (take at piece) c → IsFed c (slice_range piece at end) on → IsFed on (10 ∷ []) new → IsFed old (take (end + 1) piece) new
+pub fed_line : (old c on new : Cutting) (piece : List ℕ) (at end : ℕ) → at ≤ end → end < length piece → slice_index piece end ≡ 10 → IsFed old (take at piece) c
+    → IsFed c (slice_range piece at end) on → IsFed on (10 ∷ []) new → IsFed old (take (end + 1) piece) new
 fed_line old c on new piece at end le lt is first second feed =
-    let range : slice_range piece at (end + 1) ≡ slice_range piece at end ++ 10 ∷ [] = range_more piece at end le lt ∙ ap (λ b. slice_range piece at end ++ b ∷ []) is in
+    let range : slice_range piece at (end + 1) ≡ slice_range piece at end ++ 10 ∷ [] = range_more piece at end le lt ∙ ap (λ b. slice_range piece at end ++ b
+        ∷ []) is in
     fed_range old c new piece at (end + 1) (omega arith) first (rw range (fed_then c on new (slice_range piece at end) (10 ∷ []) second feed))
 
 pub fed_all : (old c new : Cutting) (piece : List ℕ) (at : ℕ) → IsFed old (take at piece) c → IsFed c (drop at piece) new → IsFed old piece new
@@ -104,20 +114,26 @@ finished c more is bytes stands = last (open_line bytes) refl ∙ ap (λ l. ende
     first : c.count + 1 ≡ 1 + length (ended_lines bytes)
     first = omega (arith, stands.count)
 
-    found : finished_cuts (c.count + 1) c.kept.block c.kept ≡ last_cuts (1 + length (ended_lines bytes)) (open_block 1 None (ended_lines bytes)) (open_line bytes)
+    found : finished_cuts (c.count + 1) c.kept.block c.kept ≡ last_cuts (1 + length (ended_lines bytes)) (open_block 1 None (ended_lines bytes))
+        (open_line bytes)
     found =
         let b = open_block 1 None (ended_lines bytes) in
-        ap (λ k. finished_cuts (c.count + 1) k.block k) stands.kept ∙ ap (λ m. finished_cuts m (option_map kept_block b) (kept_of b (open_line bytes))) first ∙ finished_of (1 + length (ended_lines bytes)) b (open_line bytes)
+        ap (λ k. finished_cuts (c.count + 1) k.block k) stands.kept ∙ ap (λ m. finished_cuts m (option_map kept_block b) (kept_of b (open_line bytes))) first
+            ∙ finished_of (1 + length (ended_lines bytes)) b (open_line bytes)
 
-    last : (rest : List ℕ) → open_line bytes ≡ rest → cuts bytes ≡ ended bytes ++ last_cuts (1 + length (ended_lines bytes)) (open_block 1 None (ended_lines bytes)) rest
+    last : (rest : List ℕ) → open_line bytes ≡ rest → cuts bytes ≡ ended bytes ++ last_cuts (1 + length (ended_lines bytes)) (open_block 1 None
+        (ended_lines bytes)) rest
     last [] at = ap (λ ls. lines_cuts 1 None ls ++ cut_off (open_block 1 None ls)) (lines_none bytes at)
     last (b ∷ rest) at =
         let l = (b ∷ rest) ∷ [] in
         let n = 1 + length (ended_lines bytes) in
         let o = open_block 1 None (ended_lines bytes) in
-        let one : lines_cuts 1 None (ended_lines bytes ++ l) ≡ ended bytes ++ line_cuts n o (b ∷ rest) = cuts_append 1 None (ended_lines bytes) l ∙ ap (λ x. ended bytes ++ x) (append-nil (line_cuts n o (b ∷ rest))) in
+        let one : lines_cuts 1 None (ended_lines bytes ++ l) ≡ ended bytes ++ line_cuts n o (b ∷ rest) = cuts_append 1 None (ended_lines bytes) l
+            ∙ ap (λ x. ended bytes ++ x) (append-nil (line_cuts n o (b ∷ rest))) in
         let two : open_block 1 None (ended_lines bytes ++ l) ≡ block_after n o (b ∷ rest) = block_append 1 None (ended_lines bytes) l in
-        ap (λ ls. lines_cuts 1 None ls ++ cut_off (open_block 1 None ls)) (lines_some bytes b rest at) ∙ ap (λ x. x ++ cut_off (open_block 1 None (ended_lines bytes ++ l))) one ∙ ap (λ x. (ended bytes ++ line_cuts n o (b ∷ rest)) ++ cut_off x) two ∙ append_assoc (ended bytes) (line_cuts n o (b ∷ rest)) (cut_off (block_after n o (b ∷ rest)))
+        ap (λ ls. lines_cuts 1 None ls ++ cut_off (open_block 1 None ls)) (lines_some bytes b rest at) ∙ ap (λ x. x
+            ++ cut_off (open_block 1 None (ended_lines bytes ++ l))) one ∙ ap (λ x. (ended bytes ++ line_cuts n o (b ∷ rest)) ++ cut_off x) two
+            ∙ append_assoc (ended bytes) (line_cuts n o (b ∷ rest)) (cut_off (block_after n o (b ∷ rest)))
 
 ended_first : (bytes : List ℕ) → Extends (ended bytes) (cuts bytes)
 ended_first bytes = last (open_line bytes) refl
@@ -128,7 +144,8 @@ ended_first bytes = last (open_line bytes) refl
         let line = (b ∷ rest) ∷ [] in
         let more = lines_cuts (1 + length (ended_lines bytes)) (open_block 1 None (ended_lines bytes)) line in
         let off = cut_off (open_block 1 None (ended_lines bytes ++ line)) in
-        (more ++ off, ap (λ ls. lines_cuts 1 None ls ++ cut_off (open_block 1 None ls)) (lines_some bytes b rest at) ∙ ap (λ l. l ++ off) (cuts_append 1 None (ended_lines bytes) line) ∙ append_assoc (ended bytes) more off)
+        (more ++ off, ap (λ ls. lines_cuts 1 None ls ++ cut_off (open_block 1 None ls)) (lines_some bytes b rest at) ∙ ap (λ l. l
+            ++ off) (cuts_append 1 None (ended_lines bytes) line) ∙ append_assoc (ended bytes) more off)
 
 extends_on : (xs ys zs : List Cut) → Extends xs ys → Extends ys zs → Extends xs zs
 extends_on xs ys zs a b = (a.0 ++ b.0, b.1 ∙ ap (λ l. l ++ b.0) a.1 ∙ append_assoc xs a.0 b.0)
@@ -136,16 +153,19 @@ extends_on xs ys zs a b = (a.0 ++ b.0, b.1 ∙ ap (λ l. l ++ b.0) a.1 ∙ appen
 pub stays_ended : StaysEnded
 stays_ended bytes more =
     let lines = ended_parts (glue (open_line bytes) (parts more)) in
-    let later : Extends (ended bytes) (ended (bytes ++ more)) = (lines_cuts (1 + length (ended_lines bytes)) (open_block 1 None (ended_lines bytes)) lines, ap (lines_cuts 1 None) (ended_go_on bytes more) ∙ cuts_append 1 None (ended_lines bytes) lines) in
+    let later : Extends (ended bytes) (ended (bytes ++ more)) = (lines_cuts (1 + length (ended_lines bytes)) (open_block 1 None (ended_lines bytes)) lines, ap
+        (lines_cuts 1 None) (ended_go_on bytes more) ∙ cuts_append 1 None (ended_lines bytes) lines) in
     (later, extends_on (ended bytes) (ended (bytes ++ more)) (cuts (bytes ++ more)) later (ended_first (bytes ++ more)))
 
 command_later : (m n : ℕ) (c : Cut) → m ≤ n → IsCommand m c → IsCommand n c
 command_later m n c le is = record { text = is.text; line = omega (arith, is.line) }
 
-pub commands_more : (n : ℕ) (waiting : List Cut) (c : Option Cut) → All (IsCommand n) waiting → IfSome c (IsCommand (n + 1)) → All (IsCommand (n + 1)) (waiting ++ option_to_list c)
+pub commands_more : (n : ℕ) (waiting : List Cut) (c : Option Cut) → All (IsCommand n) waiting → IfSome c (IsCommand (n + 1)) → All (IsCommand (n + 1)) (waiting
+    ++ option_to_list c)
 commands_more n waiting None all one = rw (append-nil waiting) (λ k d lt. command_later n (n + 1) _ (omega arith) (all k d lt))
 commands_more n waiting (Some c) all one = All-push (IsCommand (n + 1)) waiting c (λ k d lt. command_later n (n + 1) _ (omega arith) (all k d lt)) one
 
-pub commands_pushed : (n : ℕ) (old new : List Cut) (c : Option Cut) (r : Result (Unit {0}) AllocError) → OnOk r (new ≡ old ++ option_to_list c) → OnErr r (new ≡ old) → All (IsCommand n) old → IfSome c (IsCommand (n + 1)) → All (IsCommand (n + 1)) new
+pub commands_pushed : (n : ℕ) (old new : List Cut) (c : Option Cut) (r : Result (Unit {0}) AllocError) → OnOk r (new ≡ old ++ option_to_list c)
+    → OnErr r (new ≡ old) → All (IsCommand n) old → IfSome c (IsCommand (n + 1)) → All (IsCommand (n + 1)) new
 commands_pushed n old new c (Ok u) ok err all one = rw ok (commands_more n old c all one)
 commands_pushed n old new c (Err e) ok err all one = rw err (λ k d lt. command_later n (n + 1) _ (omega arith) (all k d lt))

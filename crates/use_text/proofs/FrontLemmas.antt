@@ -40,17 +40,24 @@ at_sized : (word : List ℕ) → IsSized (suc (length word)) (at_piece word)
 at_sized word = sized_by (same_text word (codes "pre")) (Token AtPre (length word + 1)) (Bad (code_of L 2)) (suc (length word)) (omega arith) tt
 
 -- white space, a word or a number
-front_run : (p : ℕ → Bool) (b : ℕ) (rest : List ℕ) (f : List ℕ → Piece) → p b ≡ true → ((xs : List ℕ) → is_lexeme (b ∷ xs) ≡ list_all p xs) → ((xs : List ℕ) → lexeme_piece (b ∷ xs) ≡ f (b ∷ xs)) → ((l : List ℕ) → IsSized (length l) (f l)) → Front (b ∷ rest) (f (take_while p (b ∷ rest)))
+front_run : (p : ℕ → Bool) (b : ℕ) (rest : List ℕ) (f : List ℕ → Piece) → p b ≡ true → ((xs : List ℕ) → is_lexeme (b ∷ xs) ≡ list_all p xs) → ((xs : List ℕ)
+    → lexeme_piece (b ∷ xs) ≡ f (b ∷ xs)) → ((l : List ℕ) → IsSized (length l) (f l)) → Front (b ∷ rest) (f (take_while p (b ∷ rest)))
 front_run p b rest f h test piece sized =
-    lexeme (suc (length (take_while p rest))) (run_longest p b rest test) (ap f (run_length p b rest h) ∙ ap (λ l. f (b ∷ l)) (sym (run_taken p rest)) ∙ sym (piece (take (length (take_while p rest)) rest))) (let e : length (take_while p (b ∷ rest)) ≡ suc (length (take_while p rest)) = ap length (run_length p b rest h) in subst (λ (n : ℕ). IsSized n (f (take_while p (b ∷ rest)))) e (sized (take_while p (b ∷ rest))))
+    lexeme (suc (length (take_while p rest))) (run_longest p b rest test) (ap f (run_length p b rest h) ∙ ap (λ l. f (b ∷ l)) (sym (run_taken p rest))
+        ∙ sym (piece (take (length (take_while p rest)) rest))) (let e : length (take_while p (b
+        ∷ rest)) ≡ suc (length (take_while p rest)) = ap length (run_length p b rest h) in subst (λ (n : ℕ). IsSized n (f (take_while p (b
+        ∷ rest)))) e (sized (take_while p (b ∷ rest))))
 
 -- `@` and a word
-front_at : (b : ℕ) (rest : List ℕ) → ((xs : List ℕ) → is_lexeme (b ∷ xs) ≡ list_all is_name_byte xs) → ((xs : List ℕ) → lexeme_piece (b ∷ xs) ≡ at_piece xs) → Front (b ∷ rest) (at_piece (take_while is_name_byte rest))
+front_at : (b : ℕ) (rest : List ℕ) → ((xs : List ℕ) → is_lexeme (b ∷ xs) ≡ list_all is_name_byte xs) → ((xs : List ℕ) → lexeme_piece (b ∷ xs) ≡ at_piece xs)
+    → Front (b ∷ rest) (at_piece (take_while is_name_byte rest))
 front_at b rest test piece =
-    lexeme (suc (length (take_while is_name_byte rest))) (run_longest is_name_byte b rest test) (ap at_piece (sym (run_taken is_name_byte rest)) ∙ sym (piece (take (length (take_while is_name_byte rest)) rest))) (at_sized (take_while is_name_byte rest))
+    lexeme (suc (length (take_while is_name_byte rest))) (run_longest is_name_byte b rest test) (ap at_piece (sym (run_taken is_name_byte rest))
+        ∙ sym (piece (take (length (take_while is_name_byte rest)) rest))) (at_sized (take_while is_name_byte rest))
 
 -- a string
-front_string : (b : ℕ) (rest : List ℕ) → ((xs : List ℕ) → is_lexeme (b ∷ xs) ≡ is_string false xs) → ((xs : List ℕ) → lexeme_piece (b ∷ xs) ≡ Token Str (length (b ∷ xs))) → (b == 39) ≡ true → Front (b ∷ rest) (string_piece rest)
+front_string : (b : ℕ) (rest : List ℕ) → ((xs : List ℕ) → is_lexeme (b ∷ xs) ≡ is_string false xs) → ((xs : List ℕ) → lexeme_piece (b
+    ∷ xs) ≡ Token Str (length (b ∷ xs))) → (b == 39) ≡ true → Front (b ∷ rest) (string_piece rest)
 front_string b rest test piece h = by_end (string_end 1 false rest) refl
   where
     none_some : (n : ℕ) → None ≡ Some n → ⊥
@@ -65,16 +72,19 @@ front_string b rest test piece h = by_end (string_end 1 false rest) refl
 
     by_end : (o : Option ℕ) → string_end 1 false rest ≡ o → Front (b ∷ rest) (option_map_or (λ n. Token Str n) o (Bad (code_of L 4)))
     by_end None e =
-        nothing (none_by b rest (is_string false) test (λ j le. not_true (is_string false (take j rest)) (λ p. none_some (1 + j) (sym e ∙ string_exact 1 false rest j le p))))
+        nothing (none_by b rest (is_string false) test (λ j le. not_true (is_string false (take j rest)) (λ p. none_some (1 + j) (sym e
+            ∙ string_exact 1 false rest j le p))))
         (ap Bad (sym (open_code (b == 39) (begins_comment (b ∷ rest)) h)))
     by_end (Some n) e =
         let at = string_found 1 false rest n e in
         let long : n ≡ suc at.k = at.is ∙ omega arith in
         let size : length (b ∷ take at.k rest) ≡ suc at.k = ap suc (length-take-le at.k rest at.within) in
-        lexeme (suc at.k) (longest_by b rest (is_string false) test at.k at.within at.passes (later at.k n e at.is)) (ap (Token Str) (long ∙ sym size) ∙ sym (piece (take at.k rest))) long
+        lexeme (suc at.k) (longest_by b rest (is_string false) test at.k at.within at.passes (later at.k n e at.is)) (ap (Token Str) (long ∙ sym size)
+            ∙ sym (piece (take at.k rest))) long
       where
         later : (k n : ℕ) → string_end 1 false rest ≡ Some n → n ≡ 1 + k → (j : ℕ) → k < j → j ≤ length rest → is_string false (take j rest) ≡ false
-        later k n e is j lt le = not_true (is_string false (take j rest)) (λ p. absurd (omega (arith, same_end n (1 + j) (sym e ∙ string_exact 1 false rest j le p), is, lt)))
+        later k n e is j lt le = not_true (is_string false (take j rest)) (λ p. absurd (omega (arith, same_end n (1 + j) (sym e
+            ∙ string_exact 1 false rest j le p), is, lt)))
 
 pub front : (bytes : List ℕ) → Front bytes (piece_of bytes)
 front [] = nothing none refl
@@ -97,20 +107,33 @@ front (b ∷ rest) =
     name_byte letter = rw letter refl
 
     front_white : is_white b ≡ true → Front (b ∷ rest) (piece_of (b ∷ rest))
-    front_white white = at_piece_of (White (length (take_while is_white (b ∷ rest)))) (when_true _ _ _ white) (front_run is_white b rest (λ l. White (length l)) white (λ xs. when_true _ _ _ white) (λ xs. when_true _ _ _ white) (λ l. refl))
+    front_white white = at_piece_of (White (length (take_while is_white (b ∷ rest)))) (when_true _ _ _ white) (front_run is_white b rest (λ l. White
+        (length l)) white (λ xs. when_true _ _ _ white) (λ xs. when_true _ _ _ white) (λ l. refl))
 
     front_letter : is_white b ≡ false → is_letter b ≡ true → Front (b ∷ rest) (piece_of (b ∷ rest))
-    front_letter white letter = at_piece_of (word_piece (take_while is_name_byte (b ∷ rest))) (when_false _ _ _ white ∙ when_true _ _ _ letter) (front_run is_name_byte b rest word_piece (name_byte letter) (λ xs. when_false _ _ _ white ∙ when_true _ _ _ letter) (λ xs. when_false _ _ _ white ∙ when_true _ _ _ letter) word_sized)
+    front_letter white letter = at_piece_of (word_piece (take_while is_name_byte (b ∷ rest))) (when_false _ _ _ white
+        ∙ when_true _ _ _ letter) (front_run is_name_byte b rest word_piece (name_byte letter) (λ xs. when_false _ _ _ white
+        ∙ when_true _ _ _ letter) (λ xs. when_false _ _ _ white ∙ when_true _ _ _ letter) word_sized)
 
     front_digit : is_white b ≡ false → is_letter b ≡ false → is_digit b ≡ true → Front (b ∷ rest) (piece_of (b ∷ rest))
-    front_digit white letter digit = at_piece_of (number_piece (take_while is_digit (b ∷ rest))) (when_false _ _ _ white ∙ when_false _ _ _ letter ∙ when_true _ _ _ digit) (front_run is_digit b rest number_piece digit (λ xs. when_false _ _ _ white ∙ when_false _ _ _ letter ∙ when_true _ _ _ digit) (λ xs. when_false _ _ _ white ∙ when_false _ _ _ letter ∙ when_true _ _ _ digit) number_sized)
+    front_digit white letter digit = at_piece_of (number_piece (take_while is_digit (b ∷ rest))) (when_false _ _ _ white ∙ when_false _ _ _ letter
+        ∙ when_true _ _ _ digit) (front_run is_digit b rest number_piece digit (λ xs. when_false _ _ _ white ∙ when_false _ _ _ letter
+        ∙ when_true _ _ _ digit) (λ xs. when_false _ _ _ white ∙ when_false _ _ _ letter ∙ when_true _ _ _ digit) number_sized)
 
     front_quote : is_white b ≡ false → is_letter b ≡ false → is_digit b ≡ false → (b == 39) ≡ true → Front (b ∷ rest) (piece_of (b ∷ rest))
-    front_quote white letter digit quote = at_piece_of (string_piece rest) (when_false _ _ _ white ∙ when_false _ _ _ letter ∙ when_false _ _ _ digit ∙ when_true _ _ _ quote) (front_string b rest (λ xs. when_false _ _ _ white ∙ when_false _ _ _ letter ∙ when_false _ _ _ digit ∙ when_true _ _ _ quote) (λ xs. when_false _ _ _ white ∙ when_false _ _ _ letter ∙ when_false _ _ _ digit ∙ when_true _ _ _ quote) quote)
+    front_quote white letter digit quote = at_piece_of (string_piece rest) (when_false _ _ _ white ∙ when_false _ _ _ letter ∙ when_false _ _ _ digit
+        ∙ when_true _ _ _ quote) (front_string b rest (λ xs. when_false _ _ _ white ∙ when_false _ _ _ letter ∙ when_false _ _ _ digit
+        ∙ when_true _ _ _ quote) (λ xs. when_false _ _ _ white ∙ when_false _ _ _ letter ∙ when_false _ _ _ digit ∙ when_true _ _ _ quote) quote)
 
     front_sign : is_white b ≡ false → is_letter b ≡ false → is_digit b ≡ false → (b == 39) ≡ false → (b == 64) ≡ true → Front (b ∷ rest) (piece_of (b ∷ rest))
-    front_sign white letter digit quote at = at_piece_of (at_piece (take_while is_name_byte rest)) (when_false _ _ _ white ∙ when_false _ _ _ letter ∙ when_false _ _ _ digit ∙ when_false _ _ _ quote ∙ when_true _ _ _ at) (front_at b rest (λ xs. when_false _ _ _ white ∙ when_false _ _ _ letter ∙ when_false _ _ _ digit ∙ when_false _ _ _ quote ∙ when_true _ _ _ at) (λ xs. when_false _ _ _ white ∙ when_false _ _ _ letter ∙ when_false _ _ _ digit ∙ when_false _ _ _ quote ∙ when_true _ _ _ at))
+    front_sign white letter digit quote at = at_piece_of (at_piece (take_while is_name_byte rest)) (when_false _ _ _ white ∙ when_false _ _ _ letter
+        ∙ when_false _ _ _ digit ∙ when_false _ _ _ quote ∙ when_true _ _ _ at) (front_at b rest (λ xs. when_false _ _ _ white ∙ when_false _ _ _ letter
+        ∙ when_false _ _ _ digit ∙ when_false _ _ _ quote ∙ when_true _ _ _ at) (λ xs. when_false _ _ _ white ∙ when_false _ _ _ letter ∙ when_false _ _ _ digit
+        ∙ when_false _ _ _ quote ∙ when_true _ _ _ at))
 
     front_other : is_white b ≡ false → is_letter b ≡ false → is_digit b ≡ false → (b == 39) ≡ false → (b == 64) ≡ false → Front (b ∷ rest) (piece_of (b ∷ rest))
-    front_other white letter digit quote at = at_piece_of (mark_piece (b ∷ rest)) (when_false _ _ _ white ∙ when_false _ _ _ letter ∙ when_false _ _ _ digit ∙ when_false _ _ _ quote ∙ when_false _ _ _ at)
-        (front_mark b rest (record { test = λ xs. when_false _ _ _ white ∙ when_false _ _ _ letter ∙ when_false _ _ _ digit ∙ when_false _ _ _ quote ∙ when_false _ _ _ at; piece = λ xs. when_false _ _ _ white ∙ when_false _ _ _ letter ∙ when_false _ _ _ digit ∙ when_false _ _ _ quote ∙ when_false _ _ _ at; quote = quote }))
+    front_other white letter digit quote at = at_piece_of (mark_piece (b ∷ rest)) (when_false _ _ _ white ∙ when_false _ _ _ letter ∙ when_false _ _ _ digit
+        ∙ when_false _ _ _ quote ∙ when_false _ _ _ at)
+        (front_mark b rest (record { test = λ xs. when_false _ _ _ white ∙ when_false _ _ _ letter ∙ when_false _ _ _ digit ∙ when_false _ _ _ quote
+            ∙ when_false _ _ _ at; piece = λ xs. when_false _ _ _ white ∙ when_false _ _ _ letter ∙ when_false _ _ _ digit ∙ when_false _ _ _ quote
+            ∙ when_false _ _ _ at; quote = quote }))

@@ -37,7 +37,8 @@ dark_on : (line more : List ℕ) → dark_part (line ++ more) ≡ dark_then (dar
 dark_on [] more = refl
 dark_on (b ∷ line) more = by_blank (dark_on line more) (is_blank b) refl
   where
-    by_blank : dark_part (line ++ more) ≡ dark_then (dark_part line) more → (t : Bool) → is_blank b ≡ t → dark_part (b ∷ (line ++ more)) ≡ dark_then (dark_part (b ∷ line)) more
+    by_blank : dark_part (line ++ more) ≡ dark_then (dark_part line) more → (t : Bool) → is_blank b ≡ t → dark_part (b ∷ (line
+        ++ more)) ≡ dark_then (dark_part (b ∷ line)) more
     by_blank rest true h = dark_white b (line ++ more) h ∙ rest ∙ ap (λ d. dark_then d more) (sym (dark_white b line h))
     by_blank rest false h = dark_dark b (line ++ more) h ∙ ap (λ d. dark_then d more) (sym (dark_dark b line h))
 
@@ -51,7 +52,8 @@ marks_by_on begun (b ∷ []) more = refl
 marks_by_on begun (b ∷ c ∷ rest) more = rw (list_all-append is_blank (c ∷ rest) more) refl
 
 marks_of_more : (line more : List ℕ) → marks_on (marks_of line) more ≡ marks_of (line ++ more)
-marks_of_more line more = marks_by_on (is_begun line) (dark_part line) more ∙ ap (λ t. marks_by t (dark_then (dark_part line) more)) (begun_on line more) ∙ ap (marks_by (is_begun (line ++ more))) (sym (dark_on line more))
+marks_of_more line more = marks_by_on (is_begun line) (dark_part line) more ∙ ap (λ t. marks_by t (dark_then (dark_part line) more)) (begun_on line more)
+    ∙ ap (marks_by (is_begun (line ++ more))) (sym (dark_on line more))
 
 idle_front : (d : List ℕ) → is_idle_front (slice_get d 0) (slice_get d 1) ≡ is_idle d
 idle_front [] = refl
@@ -128,25 +130,30 @@ after_of n None line = rw (only_of 92 line) (by_opening (is_opening_line line))
     by_opening false = refl
 after_of n (Some b) line = rw (only_of 46 line) (by_closing (is_closing_line line))
   where
-    by_closing : (t : Bool) → (if t then nothing else block_on b.first (kept (joined b.text line))) ≡ kept_of (if t then None else Some (block_of b.first (Some (joined b.text line)))) []
+    by_closing : (t : Bool) → (if t then nothing else block_on b.first (kept (joined b.text line))) ≡ kept_of (if t then None else Some (block_of b.first (Some
+        (joined b.text line)))) []
     by_closing true = refl
-    by_closing false = ap (λ t. made (marks_of []) t (Some (record { first = b.first; lines = kept (joined b.text line) }))) (kept_more (joined b.text line) (10 ∷ []))
+    by_closing false = ap (λ t. made (marks_of []) t (Some (record { first = b.first; lines = kept (joined b.text line) }))) (kept_more (joined b.text line) (10
+        ∷ []))
 
 -- the input ends
 pub finished_of : (n : ℕ) (b : Option Block) (line : List ℕ) → finished_cuts n (option_map kept_block b) (kept_of b line) ≡ last_cuts n b line
 finished_of n None [] = refl
-finished_of n None (c ∷ line) = rw (idle_of (c ∷ line), only_of 92 (c ∷ line), cut_of_kept (c ∷ line) n Whole) (by_line (is_opening_line (c ∷ line)) (is_idle_line (c ∷ line)))
+finished_of n None (c ∷ line) = rw (idle_of (c ∷ line), only_of 92 (c ∷ line), cut_of_kept (c ∷ line) n Whole) (by_line (is_opening_line (c
+    ∷ line)) (is_idle_line (c ∷ line)))
   where
     one : List Cut
     one = sized_cut (c ∷ line) n Whole ∷ []
 
-    by_line : (opens idle : Bool) → (if opens then cut_of [] (n + 1) Unfinished ∷ [] else (if idle then [] else one)) ≡ (if idle || opens then [] else one) ++ cut_off (if opens then Some (block_of (n + 1) None) else None)
+    by_line : (opens idle : Bool) → (if opens then cut_of [] (n + 1) Unfinished ∷ [] else (if idle then [] else one)) ≡ (if idle || opens then [] else one)
+        ++ cut_off (if opens then Some (block_of (n + 1) None) else None)
     by_line true true = refl
     by_line true false = refl
     by_line false true = refl
     by_line false false = refl
 finished_of n (Some b) [] = rw (cut_of_kept (unwrap_or b.text []) b.first Unfinished) refl
-finished_of n (Some b) (c ∷ line) = rw (only_of 46 (c ∷ line), cut_of_kept (unwrap_or b.text []) b.first Whole, cut_of_kept (joined b.text (c ∷ line)) b.first Unfinished) (by_closing (is_closing_line (c ∷ line)))
+finished_of n (Some b) (c ∷ line) = rw (only_of 46 (c ∷ line), cut_of_kept (unwrap_or b.text []) b.first Whole, cut_of_kept (joined b.text (c
+    ∷ line)) b.first Unfinished) (by_closing (is_closing_line (c ∷ line)))
   where
     by_closing : (t : Bool) → (if t then sized_cut (unwrap_or b.text []) b.first Whole ∷ [] else sized_cut (joined b.text (c ∷ line)) b.first Unfinished ∷ [])
         ≡ (if t then block_cut b Whole ∷ [] else []) ++ cut_off (if t then None else Some (block_of b.first (Some (joined b.text (c ∷ line)))))

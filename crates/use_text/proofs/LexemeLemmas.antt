@@ -28,14 +28,16 @@ pub data Front (bytes : List ℕ) (piece : Piece) : Type 0 where
   nothing : ((m : ℕ) → m ≤ length bytes → is_lexeme (take m bytes) ≡ false) → piece ≡ Bad (broken_code bytes) → Front bytes piece
 
 -- a byte, and then as many as a test of what follows it allows
-pub longest_by : (b : ℕ) (rest : List ℕ) (T : List ℕ → Bool) → ((xs : List ℕ) → is_lexeme (b ∷ xs) ≡ T xs) → (k : ℕ) → k ≤ length rest → T (take k rest) ≡ true → ((j : ℕ) → k < j → j ≤ length rest → T (take j rest) ≡ false) → IsLongest (b ∷ rest) (suc k)
+pub longest_by : (b : ℕ) (rest : List ℕ) (T : List ℕ → Bool) → ((xs : List ℕ) → is_lexeme (b ∷ xs) ≡ T xs) → (k : ℕ) → k ≤ length rest → T (take k rest) ≡ true
+    → ((j : ℕ) → k < j → j ≤ length rest → T (take j rest) ≡ false) → IsLongest (b ∷ rest) (suc k)
 longest_by b rest T e k within h f = record { within = omega arith; is = e (take k rest) ∙ h; longest = later }
   where
     later : (m : ℕ) → suc k < m → m ≤ length (b ∷ rest) → is_lexeme (take m (b ∷ rest)) ≡ false
     later zero lt le = absurd (omega arith)
     later (suc j) lt le = e (take j rest) ∙ f j (omega arith) (omega arith)
 
-pub none_by : (b : ℕ) (rest : List ℕ) (T : List ℕ → Bool) → ((xs : List ℕ) → is_lexeme (b ∷ xs) ≡ T xs) → ((j : ℕ) → j ≤ length rest → T (take j rest) ≡ false) → (m : ℕ) → m ≤ length (b ∷ rest) → is_lexeme (take m (b ∷ rest)) ≡ false
+pub none_by : (b : ℕ) (rest : List ℕ) (T : List ℕ → Bool) → ((xs : List ℕ) → is_lexeme (b ∷ xs) ≡ T xs) → ((j : ℕ) → j ≤ length rest → T (take j rest) ≡ false)
+    → (m : ℕ) → m ≤ length (b ∷ rest) → is_lexeme (take m (b ∷ rest)) ≡ false
 none_by b rest T e f zero le = refl
 none_by b rest T e f (suc j) le = e (take j rest) ∙ f j (omega arith)
 
@@ -62,13 +64,17 @@ pub run_past : (p : ℕ → Bool) (rest : List ℕ) (j : ℕ) → length (take_w
 run_past p [] j lt le = absurd (omega arith)
 run_past p (b ∷ rest) zero lt le = absurd (omega arith)
 run_past p (b ∷ rest) (suc j) lt le =
-    by_bool (p b) (λ h. let lt' : suc (length (take_while p rest)) < suc j = rw (run_length p b rest h) at lt in rw h (run_past p rest j (omega arith) (omega arith))) (λ h. rw h refl)
+    by_bool (p b) (λ h. let lt' : suc (length (take_while p rest)) < suc j = rw (run_length p b rest h) at lt
+        in rw h (run_past p rest j (omega arith) (omega arith))) (λ h. rw h refl)
 
-pub run_longest : (p : ℕ → Bool) (b : ℕ) (rest : List ℕ) → ((xs : List ℕ) → is_lexeme (b ∷ xs) ≡ list_all p xs) → IsLongest (b ∷ rest) (suc (length (take_while p rest)))
-run_longest p b rest e = longest_by b rest (list_all p) e (length (take_while p rest)) (run_within p rest) (rw (run_taken p rest) (run_all p rest)) (run_past p rest)
+pub run_longest : (p : ℕ → Bool) (b : ℕ) (rest : List ℕ) → ((xs : List ℕ) → is_lexeme (b ∷ xs) ≡ list_all p xs) → IsLongest (b
+    ∷ rest) (suc (length (take_while p rest)))
+run_longest p b rest e = longest_by b rest (list_all p) e (length (take_while p rest)) (run_within p rest) (rw (run_taken p rest) (run_all p rest))
+    (run_past p rest)
 
 -- where the end of a string or a comment is, only that front is one
-exact_at : (feed last : Bool) (n k : ℕ) (rest : List ℕ) (inner : Bool) (later : Option ℕ) → k ≤ length rest → (inner ≡ true → later ≡ Some (n + suc k)) → cond feed false (cond last (is_nothing (take k rest)) inner) ≡ true → cond feed None (cond last (Some (n + 1)) later) ≡ Some (n + suc k)
+exact_at : (feed last : Bool) (n k : ℕ) (rest : List ℕ) (inner : Bool) (later : Option ℕ) → k ≤ length rest → (inner ≡ true → later ≡ Some (n + suc k))
+    → cond feed false (cond last (is_nothing (take k rest)) inner) ≡ true → cond feed None (cond last (Some (n + 1)) later) ≡ Some (n + suc k)
 exact_at true last n k rest inner later le f h = cc
 exact_at false true n zero rest inner later le f h = ap Some (omega arith)
 exact_at false true n (suc k) [] inner later le f h = absurd (omega arith)
@@ -80,7 +86,8 @@ string_exact n taken [] zero le h = cc
 string_exact n taken [] (suc k) le h = cc
 string_exact n taken (b ∷ rest) zero le h = cc
 string_exact n taken (b ∷ rest) (suc k) le h =
-    exact_at (b == 10) ((b == 39) && not taken) n k rest (is_string ((b == 92) && not taken) (take k rest)) (string_end (n + 1) ((b == 92) && not taken) rest) (omega arith)
+    exact_at (b == 10) ((b == 39) && not taken) n k rest (is_string ((b == 92) && not taken) (take k rest)) (string_end (n + 1) ((b == 92)
+        && not taken) rest) (omega arith)
     (λ g. string_exact (n + 1) ((b == 92) && not taken) rest k (omega arith) g ∙ ap Some (omega arith)) h
 
 pub comment_exact : (n : ℕ) (star : Bool) (bs : List ℕ) (k : ℕ) → k ≤ length bs → is_comment star (take k bs) ≡ true → comment_end n star bs ≡ Some (n + k)
@@ -98,7 +105,9 @@ pub record EndsAt (T : List ℕ → Bool) (n : ℕ) (bs : List ℕ) (e : ℕ) : 
   pub is : e ≡ n + k
   pub passes : T (take k bs) ≡ true
 
-found_at : (feed last : Bool) (n e : ℕ) (rest : List ℕ) (inner : List ℕ → Bool) (later : Option ℕ) → (later ≡ Some e → EndsAt inner (n + 1) rest e) → cond feed None (cond last (Some (n + 1)) later) ≡ Some e → (k : ℕ) × (k ≤ length rest) × (e ≡ n + suc k) × (cond feed false (cond last (is_nothing (take k rest)) (inner (take k rest))) ≡ true)
+found_at : (feed last : Bool) (n e : ℕ) (rest : List ℕ) (inner : List ℕ → Bool) (later : Option ℕ) → (later ≡ Some e → EndsAt inner (n + 1) rest e)
+    → cond feed None (cond last (Some (n + 1)) later) ≡ Some e → (k : ℕ) × (k ≤ length rest) × (e ≡ n + suc k) × (cond feed false (cond last (is_nothing
+    (take k rest)) (inner (take k rest))) ≡ true)
 found_at true last n e rest inner later f h = absurd (none_some e h)
   where
     none_some : (e : ℕ) → None ≡ Some e → ⊥
@@ -127,5 +136,6 @@ comment_found n star [] e h = absurd (none_some e h)
     none_some : (e : ℕ) → None ≡ Some e → ⊥
     none_some e h = cc
 comment_found n star (b ∷ rest) e h =
-    let at = found_at false ((b == 47) && star) n e rest (is_comment (b == 42)) (comment_end (n + 1) (b == 42) rest) (comment_found (n + 1) (b == 42) rest e) h in
+    let at = found_at false ((b == 47) && star) n e rest (is_comment (b == 42)) (comment_end (n + 1) (b == 42) rest) (comment_found (n + 1)
+        (b == 42) rest e) h in
     record { k = suc at.0; within = omega (arith, at.1); is = at.2; passes = at.3 }

@@ -88,7 +88,8 @@ byte_on b (p ∷ q ∷ ps) more all some is = ap (onto_first b) is
 one_on : (b : ℕ) (bs more : List ℕ) → GoesOn (parts bs) (parts more) (parts (bs ++ more)) → GoesOn (parts (b ∷ bs)) (parts more) (parts ((b ∷ bs) ++ more))
 one_on b bs more rest = by_feed (b == 10)
   where
-    by_feed : (t : Bool) → GoesOn (if t then [] ∷ parts bs else onto_first b (parts bs)) (parts more) (if t then [] ∷ parts (bs ++ more) else onto_first b (parts (bs ++ more)))
+    by_feed : (t : Bool) → GoesOn (if t then [] ∷ parts bs else onto_first b (parts bs)) (parts more) (if t then [] ∷ parts (bs
+        ++ more) else onto_first b (parts (bs ++ more)))
     by_feed true = feed_on (parts bs) (parts more) (parts (bs ++ more)) (parts_some bs) rest
     by_feed false = byte_on b (parts bs) (parts more) (parts (bs ++ more)) (parts_some bs) rest
 
@@ -118,10 +119,12 @@ last_append [] ys some = refl
 last_append (x ∷ xs) ys some = last_cons x (xs ++ ys) (some_more xs ys some) ∙ last_append xs ys some
 
 pub ended_go_on : (bs more : List ℕ) → ended_lines (bs ++ more) ≡ ended_lines bs ++ ended_parts (glue (open_line bs) (parts more))
-ended_go_on bs more = ap ended_parts (parts_go_on bs more) ∙ ended_append (ended_lines bs) (glue (open_line bs) (parts more)) (glue_some (open_line bs) (parts more))
+ended_go_on bs more = ap ended_parts (parts_go_on bs more) ∙ ended_append (ended_lines bs) (glue (open_line bs) (parts more)) (glue_some (open_line bs)
+    (parts more))
 
 pub open_go_on : (bs more : List ℕ) → open_line (bs ++ more) ≡ last_part (glue (open_line bs) (parts more))
-open_go_on bs more = ap last_part (parts_go_on bs more) ∙ last_append (ended_lines bs) (glue (open_line bs) (parts more)) (glue_some (open_line bs) (parts more))
+open_go_on bs more = ap last_part (parts_go_on bs more) ∙ last_append (ended_lines bs) (glue (open_line bs) (parts more)) (glue_some (open_line bs)
+    (parts more))
 
 counted_two : (p q : List ℕ) (ps : List (List ℕ)) → counted_parts (p ∷ q ∷ ps) ≡ p ∷ counted_parts (q ∷ ps)
 counted_two [] q ps = refl
@@ -162,7 +165,8 @@ pub in_line_begins : (xs : List ℕ) (i : ℕ) → IsInLine (slice_range xs i i)
 in_line_begins xs i = rw (range_none xs i) refl
 
 -- one more byte that is no line feed
-pub in_line_goes_on : (xs : List ℕ) (i j : ℕ) → i ≤ j → j < length xs → slice_index xs j ≢ 10 → IsInLine (slice_range xs i j) → IsInLine (slice_range xs i (j + 1))
+pub in_line_goes_on : (xs : List ℕ) (i j : ℕ) → i ≤ j → j < length xs → slice_index xs j ≢ 10 → IsInLine (slice_range xs i j)
+    → IsInLine (slice_range xs i (j + 1))
 in_line_goes_on xs i j le lt dark is = rw (range_more xs i j le lt) (in_line_push (slice_range xs i j) (slice_index xs j) dark is)
   where
     one : (b : ℕ) → b ≢ 10 → parts (b ∷ []) ≡ (b ∷ []) ∷ []

@@ -9,7 +9,9 @@ pub returns-then-branch : goal.returns-then-branch
 returns-then-branch c = record { unfit = c.in_ok-is_unfit.ensures.0 c.if-branch.true; before = c.prods.invariant }
 
 pub prods-preserved : goal.prods-preserved
-prods-preserved c = below_more (λ q. Unfit c.args.g.now q → ⊥) c.prods.p c.prods.invariant (λ u. false≢true (sym c.if-branch.false ∙ c.in_ok-is_unfit.ensures.1 u))
+prods-preserved c = below_more (λ q. Unfit c.args.g.now q → ⊥) c.prods.p c.prods.invariant (λ u. false≢true (sym c.if-branch.false
+    ∙ c.in_ok-is_unfit.ensures.1 u))
 
 pub returns : goal.returns
-returns c = λ p u. let i = unfit_inside c.args.g.now p u in c.prods.invariant p (omega (arith, i, c.prods-test.false, ap (λ (l : List Prod). length l) c.as_slice-x-items.ensures)) u
+returns c = λ p u. let i = unfit_inside c.args.g.now p u in c.prods.invariant p (omega (arith, i, c.prods-test.false, ap (λ
+    (l : List Prod). length l) c.as_slice-x-items.ensures)) u

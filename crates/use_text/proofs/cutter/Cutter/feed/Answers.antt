@@ -18,7 +18,8 @@ lines-preserved c =
     record {
       within = omega arith;
       few = omega (arith, c.lines.invariant.few, c.extend.ensures.count, c.in_ok-end_line.ensures.count);
-      fed = fed_line c.args.self.now old on new c.args.piece.now c.lines.at c.in-Some.end found.within.0 found.within.1 found.feed c.lines.invariant.fed line feed;
+      fed = fed_line c.args.self.now old on new c.args.piece.now c.lines.at c.in-Some.end found.within.0 found.within.1 found.feed c.lines.invariant.fed line
+          feed;
     }
 
 pub returns-clause-fed : goal.returns-clause-fed
@@ -26,4 +27,5 @@ returns-clause-fed c =
     let old = c.lines.self in
     let on = c.extend-2.new.self in
     let kept_is = c.in_ok-extend-2.ensures.kept ∙ ap (extended old.kept) (take_rest c.args.piece.now c.lines.at) in
-    fed_all c.args.self.now old on c.args.piece.now c.lines.at c.lines.invariant.fed (goes_on old on (drop c.lines.at c.args.piece.now) c.in_default.ensures.«open» kept_is c.extend-2.ensures.count c.extend-2.ensures.waiting)
+    fed_all c.args.self.now old on c.args.piece.now c.lines.at c.lines.invariant.fed (goes_on old on
+        (drop c.lines.at c.args.piece.now) c.in_default.ensures.«open» kept_is c.extend-2.ensures.count c.extend-2.ensures.waiting)
