@@ -16,7 +16,8 @@ none_at [] i h e = omega arith
 none_at (x ∷ xs) zero h e = cc
 none_at (x ∷ xs) (suc i) h e = none_at xs i (omega arith) e
 
-none_given : (xs : List ClassDecl) (o : Option ℕ) → ((i : ℕ) → o ≡ Some i → i < length xs) → option_map (λ c. c.name.place) (option_and_then (slice_get xs) o) ≡ None → o ≡ None
+none_given : (xs : List ClassDecl) (o : Option ℕ) → ((i : ℕ) → o ≡ Some i → i < length xs)
+    → option_map (λ c. c.name.place) (option_and_then (slice_get xs) o) ≡ None → o ≡ None
 none_given xs None h e = refl
 none_given xs (Some i) h e = absurd (none_at xs i (h i refl) e)
 

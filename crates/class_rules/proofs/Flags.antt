@@ -32,7 +32,8 @@ flag_is : (n : ℕ) (done : List Bool) (order : List ℕ) → IsFlagged n done o
 flag_is n done order flags p =
     ⊎_elim
     (λ t. flags.same p (t.1) ∙ or_false (is_among order p) ∙ ap (λ b. is_among order p || not b) (sym t.0))
-    (λ t. past_end done p true (let e : length done ≡ n = flags.size in let k : n < suc p = t.1 in omega arith) ∙ or_true (is_among order p) ∙ ap (λ b. is_among order p || not b) (sym t.0))
+    (λ t. past_end done p true (let e : length done ≡ n = flags.size in let k : n < suc p = t.1 in omega arith) ∙ or_true (is_among order p)
+    ∙ ap (λ b. is_among order p || not b) (sym t.0))
     (leb_tells (suc p) n)
 
 all_alike : (f g : ℕ → Bool) → ((p : ℕ) → f p ≡ g p) → (ps : List ℕ) → list_all f ps ≡ list_all g ps
@@ -41,14 +42,17 @@ all_alike f g h (p ∷ ps) = ap₂ (λ a b. a && b) (h p) (all_alike f g h ps)
 
 -- the test of the flags is the one of the definition
 pub next_is : (parents : List (List ℕ)) (done : List Bool) (order : List ℕ) → IsFlagged (length parents) done order →
-    least_below (λ i. not (get_or done i true) && list_all (λ p. get_or done p true) (row_at parents i)) (length parents) ≡ least_below (may_follow parents order) (length parents)
+    least_below (λ i. not (get_or done i true) && list_all (λ p. get_or done p true) (row_at parents i)) (length parents) ≡ least_below
+    (may_follow parents order) (length parents)
 next_is parents done order flags =
     least_alike (λ i. not (get_or done i true) && list_all (λ p. get_or done p true) (row_at parents i)) (may_follow parents order) (length parents)
     (λ i low. ap₂ (λ a b. not a && b) (flags.same i low)
-    (all_alike (λ p. get_or done p true) (λ p. is_among order p || not (nat_lt p (length parents))) (flag_is (length parents) done order flags) (row_at parents i)))
+    (all_alike (λ p. get_or done p true) (λ p. is_among order p || not (nat_lt p (length parents))) (flag_is (length parents) done order flags)
+    (row_at parents i)))
 
 -- one class more has a number
-pub flagged_more : (n : ℕ) (done : List Bool) (order : List ℕ) (place : ℕ) → place < n → IsFlagged n done order → IsFlagged n (slice_set done place true) (order ++ place ∷ [])
+pub flagged_more : (n : ℕ) (done : List Bool) (order : List ℕ) (place : ℕ) → place < n → IsFlagged n done order → IsFlagged n (slice_set done place true) (order
+    ++ place ∷ [])
 flagged_more n done order place low flags = record {
   size = length-set done place true ∙ flags.size;
   same = λ i h.
@@ -86,36 +90,42 @@ pub least_within : (f : ℕ → Bool) (n i : ℕ) → least_below f n ≡ Some i
 least_within f zero i e = cc
 least_within f (suc n) i e = within_or (least_below f n) (f n) n i (λ j. least_within f n j) e
 
-module _ (parents : List (List ℕ)) (done : List Bool) (order : List ℕ) (count from : ℕ) (so_far : IsNumberedSoFar parents done order count from) (more : count < length parents) where
+module _ (parents : List (List ℕ)) (done : List Bool) (order : List ℕ) (count from : ℕ) (so_far : IsNumberedSoFar parents done order count from)
+    (more : count < length parents) where
   abbrev pub flag_test : ℕ → Bool
   flag_test i = not (get_or done i true) && list_all (λ p. get_or done p true) (row_at parents i)
 
-  next_step : numbering parents ≡ option_map_or (λ i. numbered_on parents (order ++ i ∷ []) (length parents - (count + 1))) (least_below flag_test (length parents)) order
+  next_step : numbering parents ≡ option_map_or (λ i. numbered_on parents (order ++ i ∷ []) (length parents - (count + 1))) (least_below flag_test
+      (length parents)) order
   next_step =
       let m : length parents - count ≡ suc (length parents - (count + 1)) = omega arith in
       so_far.ahead ∙ ap (numbered_on parents order) m
-      ∙ ap (λ o. option_map_or (λ i. numbered_on parents (order ++ i ∷ []) (length parents - (count + 1))) o order) (sym (next_is parents done order so_far.flags))
+      ∙ ap (λ o. option_map_or (λ i. numbered_on parents (order ++ i ∷ []) (length parents - (count + 1))) o order) (sym
+      (next_is parents done order so_far.flags))
 
   -- no class may follow
   pub stuck : least_below flag_test (length parents) ≡ None → order ≡ numbering parents
   stuck e = sym (next_step ∙ ap (λ o. option_map_or (λ i. numbered_on parents (order ++ i ∷ []) (length parents - (count + 1))) o order) e)
 
   -- the next class gets its number
-  pub further : (open_from place : ℕ) → ((i : ℕ) → i < open_from → get_or done i true ≡ true) → open_from ≤ length parents → least_below flag_test (length parents) ≡ Some place →
+  pub further : (open_from place : ℕ) → ((i : ℕ) → i < open_from → get_or done i true ≡ true) → open_from ≤ length parents
+      → least_below flag_test (length parents) ≡ Some place →
       IsNumberedSoFar parents (slice_set done place true) (order ++ place ∷ []) (count + 1) open_from
   further open_from place low within e = record {
     flags = flagged_more (length parents) done order place (least_within flag_test (length parents) place e) so_far.flags;
     ahead = next_step ∙ ap (λ o. option_map_or (λ i. numbered_on parents (order ++ i ∷ []) (length parents - (count + 1))) o order) e;
     low = λ i h. ⊎_elim
         (λ t. ap (λ j. get_or (slice_set done place true) j true) t.1
-        ∙ get_or-set_same done place true true (let s : length done ≡ length parents = so_far.flags.size in let b = least_within flag_test (length parents) place e in omega arith))
+        ∙ get_or-set_same done place true true (let s : length done ≡ length parents = so_far.flags.size in
+        let b = least_within flag_test (length parents) place e in omega arith))
         (λ t. get_or-set_other done place i true true t.1 ∙ low i h)
         (eqb_tells i place);
     within = within;
   }
 
 -- each class had its turn
-pub finished : (parents : List (List ℕ)) (done : List Bool) (order : List ℕ) (count from : ℕ) → IsNumberedSoFar parents done order count from → length parents ≤ count → order ≡ numbering parents
+pub finished : (parents : List (List ℕ)) (done : List Bool) (order : List ℕ) (count from : ℕ) → IsNumberedSoFar parents done order count from
+    → length parents ≤ count → order ≡ numbering parents
 finished parents done order count from so_far all =
     let e : length parents - count ≡ 0 = omega arith in
     sym (so_far.ahead ∙ ap (numbered_on parents order) e)

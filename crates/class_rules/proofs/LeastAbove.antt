@@ -16,7 +16,8 @@ among_has (x ∷ xs) z = ap₂ (λ a b. a || b) (unsigned_ties z x) (among_has x
 
 -- the set of some numbers has the same members
 among_ancestors : (parents : List (List ℕ)) (c z : ℕ) → is_among (ancestors parents c) z ≡ is_among (upward parents (suc c) c) z
-among_ancestors parents c z = among_has (ancestors parents c) z ∙ has-set_of nat_cmp_total (upward parents (suc c) c) z ∙ sym (among_has (upward parents (suc c) c) z)
+among_ancestors parents c z = among_has (ancestors parents c) z ∙ has-set_of nat_cmp_total (upward parents (suc c) c) z
+    ∙ sym (among_has (upward parents (suc c) c) z)
 
 all_joined : (P : ℕ → Type 0) (xs ys : List ℕ) → AllByRecursion P xs → AllByRecursion P ys → AllByRecursion P (xs ++ ys)
 all_joined P [] ys h g = g
@@ -74,7 +75,8 @@ closed parents down (suc n) c h =
       all_flat (upward parents n) (λ d. AllByRecursion (λ p. is_among (c ∷ rest) p ≡ true) (row_at parents d)) row
           (weaker
           (λ q k. let low = k.0 in
-          weaker (λ d g. weaker (λ p e. or_right (nat_eq p c) (is_among rest p) (k.1 p e)) (row_at parents d) g) (upward parents n q) (closed parents down n q (omega arith)))
+          weaker (λ d g. weaker (λ p e. or_right (nat_eq p c) (is_among rest p) (k.1 p e)) (row_at parents d) g) (upward parents n q) (closed parents down n q
+          (omega arith)))
           row inside),
     )
 
@@ -86,7 +88,8 @@ of_member P [] z h e = absurd (true≢false (sym e))
 of_member P (x ∷ xs) z h e = by_member P x z (is_among xs z) h.0 (of_member P xs z h.1) e
 
 -- a set with the parents of its members holds all above a class that it holds
-held_above : (parents : List (List ℕ)) (held : ℕ → Bool) → HoldsParents parents held → (n c : ℕ) → held c ≡ true → AllByRecursion (λ d. held d ≡ true) (upward parents n c)
+held_above : (parents : List (List ℕ)) (held : ℕ → Bool) → HoldsParents parents held → (n c : ℕ) → held c ≡ true
+    → AllByRecursion (λ d. held d ≡ true) (upward parents n c)
 held_above parents held more zero c h = tt
 held_above parents held more (suc n) c h =
     (h, all_flat (upward parents n) (λ d. held d ≡ true) (row_at parents c) (weaker (λ q k. held_above parents held more n q k) (row_at parents c) (more c h)))
@@ -98,6 +101,7 @@ least_above parents down c =
       class = among_ancestors parents c c ∙ starts parents (suc c) c (omega arith);
       parents_too = λ d h.
           weaker (λ p e. among_ancestors parents c p ∙ e) (row_at parents d)
-          (of_member (λ d. AllByRecursion (λ p. is_among all p ≡ true) (row_at parents d)) all d (closed parents down (suc c) c (omega arith)) (sym (among_ancestors parents c d) ∙ h));
+          (of_member (λ d. AllByRecursion (λ p. is_among all p ≡ true) (row_at parents d)) all d (closed parents down (suc c) c (omega arith)) (sym
+          (among_ancestors parents c d) ∙ h));
       least = λ held h more d e. of_member (λ d. held d ≡ true) all d (held_above parents held more (suc c) c h) (sym (among_ancestors parents c d) ∙ e);
     }

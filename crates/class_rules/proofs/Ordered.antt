@@ -26,7 +26,8 @@ pub record Follows (parents : List (List ℕ)) (done : List ℕ) (i : ℕ) : Typ
 pub record InTurn (parents : List (List ℕ)) (order : List ℕ) : Type 0 where
   pub at : (k : ℕ) → k < length order → Follows parents (take k order) (get_or order k 0)
 
-passes_or : (f : ℕ → Bool) (n i : ℕ) (o : Option ℕ) (b : Bool) → ((j : ℕ) → o ≡ Some j → f j ≡ true) → (b ≡ true → f n ≡ true) → option_or o (cond b (Some n) None) ≡ Some i → f i ≡ true
+passes_or : (f : ℕ → Bool) (n i : ℕ) (o : Option ℕ) (b : Bool) → ((j : ℕ) → o ≡ Some j → f j ≡ true) → (b ≡ true → f n ≡ true)
+    → option_or o (cond b (Some n) None) ≡ Some i → f i ≡ true
 passes_or f n i None true h g e = let k : n ≡ i = cc in ap f (sym k) ∙ g refl
 passes_or f n i None false h g e = cc
 passes_or f n i (Some j) b h g e = let k : j ≡ i = cc in ap f (sym k) ∙ h j refl
@@ -51,7 +52,8 @@ follows : (parents : List (List ℕ)) (done : List ℕ) (i : ℕ) → least_belo
 follows parents done i e = record {
   low = least_within (may_follow parents done) (length parents) i e;
   above = all_from_test (λ p. is_among done p || not (nat_lt p (length parents))) (row_at parents i)
-      (second_of (not (is_among done i)) (list_all (λ p. is_among done p || not (nat_lt p (length parents))) (row_at parents i)) (least_passes (may_follow parents done) (length parents) i e));
+      (second_of (not (is_among done i)) (list_all (λ p. is_among done p || not (nat_lt p (length parents))) (row_at parents i)) (least_passes
+      (may_follow parents done) (length parents) i e));
 }
 
 one_more : (parents : List (List ℕ)) (done : List ℕ) (i : ℕ) → InTurn parents done → Follows parents done i → InTurn parents (done ++ i ∷ [])
@@ -68,7 +70,8 @@ one_more parents done i before now = record {
       (cases_lt k (length done));
 }
 
-by_next : (parents : List (List ℕ)) (done : List ℕ) (n : ℕ) (o : Option ℕ) → InTurn parents done → ((i : ℕ) → o ≡ Some i → InTurn parents (numbered_on parents (done ++ i ∷ []) n)) →
+by_next : (parents : List (List ℕ)) (done : List ℕ) (n : ℕ) (o : Option ℕ) → InTurn parents done → ((i : ℕ) → o ≡ Some i
+    → InTurn parents (numbered_on parents (done ++ i ∷ []) n)) →
     InTurn parents (option_map_or (λ i. numbered_on parents (done ++ i ∷ []) n) o done)
 by_next parents done n None h f = h
 by_next parents done n (Some i) h f = f i refl
@@ -76,7 +79,8 @@ by_next parents done n (Some i) h f = f i refl
 in_turn_on : (parents : List (List ℕ)) (done : List ℕ) (n : ℕ) → InTurn parents done → InTurn parents (numbered_on parents done n)
 in_turn_on parents done zero h = h
 in_turn_on parents done (suc n) h =
-    by_next parents done n (least_below (may_follow parents done) (length parents)) h (λ i e. in_turn_on parents (done ++ i ∷ []) n (one_more parents done i h (follows parents done i e)))
+    by_next parents done n (least_below (may_follow parents done) (length parents)) h (λ i e. in_turn_on parents (done ++ i
+    ∷ []) n (one_more parents done i h (follows parents done i e)))
 
 pub in_turn : (parents : List (List ℕ)) → InTurn parents (numbering parents)
 in_turn parents = in_turn_on parents [] (length parents) (record { at = λ k h. absurd (omega arith) })
@@ -84,7 +88,8 @@ in_turn parents = in_turn_on parents [] (length parents) (record { at = λ k h. 
 pub numbers_low : (parents : List (List ℕ)) → All (λ place. place < length parents) (numbering parents)
 numbers_low parents = λ k d h. let e = default_alike (numbering parents) k d 0 h in let f = (in_turn parents).at k h in let low = f.low in omega arith
 
-early_by : (b : Bool) (n c q : ℕ) (a : Bool) (o : Option ℕ) → (b || a) ≡ true → cond b (Some n) o ≡ Some q → (a ≡ true → o ≡ Some q → q < n + suc c) → q < n + suc c
+early_by : (b : Bool) (n c q : ℕ) (a : Bool) (o : Option ℕ) → (b || a) ≡ true → cond b (Some n) o ≡ Some q → (a ≡ true → o ≡ Some q → q < n + suc c)
+    → q < n + suc c
 early_by true n c q a o h e f = let k : n ≡ q = cc in omega arith
 early_by false n c q a o h e f = f h e
 
@@ -92,7 +97,8 @@ early_by false n c q a o h e f = f h e
 early : (test : ℕ → Bool) (n : ℕ) (xs : List ℕ) (c q : ℕ) → list_any test (take c xs) ≡ true → position_from test n xs ≡ Some q → q < n + c
 early test n xs zero q h e = absurd (true≢false (sym h))
 early test n [] (suc c) q h e = absurd (true≢false (sym h))
-early test n (x ∷ xs) (suc c) q h e = early_by (test x) n c q (list_any test (take c xs)) (position_from test (n + 1) xs) h e (λ a b. let r = early test (n + 1) xs c q a b in omega arith)
+early test n (x ∷ xs) (suc c) q h e = early_by (test x) n c q (list_any test (take c xs)) (position_from test (n + 1) xs) h e (λ a b.
+    let r = early test (n + 1) xs c q a b in omega arith)
 
 -- an element that stands somewhere passes
 found_by : (b : Bool) (n q : ℕ) (o : Option ℕ) (a : Bool) → cond b (Some n) o ≡ Some q → (o ≡ Some q → a ≡ true) → (b || a) ≡ true
@@ -128,7 +134,8 @@ all_with : {P Q : ℕ → Type 0} → ((x : ℕ) → P x → Q x) → (xs : List
 all_with f [] h = tt
 all_with f (x ∷ xs) h = (f x h.0, all_with f xs h.1)
 
-row_of_map : (P : ℕ → Type 0) (f : ℕ → List ℕ) (xs : List ℕ) (c : ℕ) → (c < length xs → AllByRecursion P (f (get_or xs c 0))) → AllByRecursion P (row_at (map f xs) c)
+row_of_map : (P : ℕ → Type 0) (f : ℕ → List ℕ) (xs : List ℕ) (c : ℕ) → (c < length xs → AllByRecursion P (f (get_or xs c 0)))
+    → AllByRecursion P (row_at (map f xs) c)
 row_of_map P f [] c h = tt
 row_of_map P f (x ∷ xs) zero h = h (omega arith)
 row_of_map P f (x ∷ xs) (suc c) h = row_of_map P f xs c (λ k. h (omega arith))
@@ -142,7 +149,8 @@ module _ (ds : Decls) where
       ⊎_elim
       (λ t. let low = early (nat_eq p) 0 order c q (or_first (is_among (take c order) p) (nat_lt p (length (parent_places ds))) t.0 h) e in omega arith)
       (λ t.
-      let low = low_among p (length (parent_places ds)) order (recursion_from_All (λ x. x < length (parent_places ds)) order (numbers_low (parent_places ds))) (found_any (nat_eq p) 0 order q e) in
+      let low = low_among p (length (parent_places ds)) order (recursion_from_All (λ x. x < length (parent_places ds)) order (numbers_low (parent_places ds)))
+      (found_any (nat_eq p) 0 order q e) in
       let high : length (parent_places ds) < suc p = t.1 in
       absurd (omega arith))
       (leb_tells (suc p) (length (parent_places ds)))

@@ -21,7 +21,8 @@ position_more test n (y ∷ ys) zero x h e = let k : n + 0 ≡ n = omega arith i
 position_more test n (y ∷ ys) (suc i) x h e =
     let k : suc i + 1 ≡ suc (i + 1) = omega arith in
     let m : n + suc i ≡ (n + 1) + i = omega arith in
-    rw (k, m) (choice (test y) n (position_from test (n + 1) (take (i + 1) ys)) (position_from test (n + 1) (take i ys)) (cond (test x) (Some ((n + 1) + i)) None)
+    rw (k, m) (choice (test y) n (position_from test (n + 1) (take (i + 1) ys)) (position_from test (n + 1) (take i ys)) (cond (test x) (Some
+    ((n + 1) + i)) None)
     (position_more test (n + 1) ys i x (omega arith) e))
 
 or_none : (o : Option ℕ) → o ≡ option_or o None
@@ -48,7 +49,8 @@ added_by o place false h = or_none o
 
 module _ (old : BTreeMap (List ℕ) ℕ) (text : List ℕ) (place : ℕ) where
   -- a name that is there keeps its place
-  pub kept : is_some (get text_cmp old text) ≡ true → (t : List ℕ) → get text_cmp old t ≡ option_or (get text_cmp old t) (cond (same_text text t) (Some place) None)
+  pub kept : is_some (get text_cmp old text) ≡ true → (t : List ℕ) → get text_cmp old t ≡ option_or (get text_cmp old t) (cond (same_text text t)
+      (Some place) None)
   kept known t = kept_by (get text_cmp old t) place (same_text text t) (λ e. ap (λ k. is_some (get text_cmp old k)) (sym (same_is text t e)) ∙ known)
 
   -- a new name gets it
@@ -56,7 +58,8 @@ module _ (old : BTreeMap (List ℕ) ℕ) (text : List ℕ) (place : ℕ) where
       (t : List ℕ) → get text_cmp new t ≡ option_or (get text_cmp old t) (cond (same_text text t) (Some place) None)
   added new absent updates t =
       updates.0 t ∙ ap (λ b. cond b (Some place) (get text_cmp old t)) (sym (texts_ties text t))
-      ∙ added_by (get text_cmp old t) place (same_text text t) (λ e. none_from (get text_cmp old t) (ap (λ k. is_some (get text_cmp old k)) (sym (same_is text t e)) ∙ absent))
+      ∙ added_by (get text_cmp old t) place (same_text text t) (λ e. none_from (get text_cmp old t) (ap (λ k. is_some (get text_cmp old k)) (sym
+      (same_is text t e)) ∙ absent))
 
 -- two choices that agree give the same
 pub choices_alike : {A B : Type 0} (f g : A → Option B) → ((x : A) → f x ≡ g x) → (xs : List A) → filter_map f xs ≡ filter_map g xs

@@ -71,7 +71,8 @@ one_less done i (suc n) h e =
     ⊎_elim
     (λ low.
     both_length (is_among done n) n (places_without done n) (places_without (done ++ i ∷ []) n) (one_less done i n low e)
-    ∙ ap (λ b. suc (length (cond (not b) (n ∷ places_without (done ++ i ∷ []) n) (places_without (done ++ i ∷ []) n)))) (sym (with_other done i n (more_apart n i low))))
+    ∙ ap (λ b. suc (length (cond (not b) (n ∷ places_without (done ++ i ∷ []) n) (places_without (done ++ i
+    ∷ []) n)))) (sym (with_other done i n (more_apart n i low))))
     (λ high.
     let k : n ≡ i = omega arith in
     kept_length (is_among done n) n (places_without done n) (ap (is_among done) k ∙ e)
@@ -81,23 +82,27 @@ one_less done i (suc n) h e =
     (cases_lt i n)
 
 -- what holds of the classes that have a number at each step
-by_next : (P : List ℕ → Type 0) (parents : List (List ℕ)) (done : List ℕ) (n : ℕ) (o : Option ℕ) → P done → ((i : ℕ) → o ≡ Some i → P (numbered_on parents (done ++ i ∷ []) n)) →
+by_next : (P : List ℕ → Type 0) (parents : List (List ℕ)) (done : List ℕ) (n : ℕ) (o : Option ℕ) → P done → ((i : ℕ) → o ≡ Some i → P (numbered_on parents (done
+    ++ i ∷ []) n)) →
     P (option_map_or (λ i. numbered_on parents (done ++ i ∷ []) n) o done)
 by_next P parents done n None h f = h
 by_next P parents done n (Some i) h f = f i refl
 
-kept_on : (P : List ℕ → Type 0) (parents : List (List ℕ)) → ((done : List ℕ) (i : ℕ) → P done → i < length parents → may_follow parents done i ≡ true → P (done ++ i ∷ [])) →
+kept_on : (P : List ℕ → Type 0) (parents : List (List ℕ)) → ((done : List ℕ) (i : ℕ) → P done → i < length parents → may_follow parents done i ≡ true → P (done
+    ++ i ∷ [])) →
     (done : List ℕ) (n : ℕ) → P done → P (numbered_on parents done n)
 kept_on P parents step done zero h = h
 kept_on P parents step done (suc n) h =
     by_next P parents done n (least_below (may_follow parents done) (length parents)) h
-    (λ i e. kept_on P parents step (done ++ i ∷ []) n (step done i h (least_within (may_follow parents done) (length parents) i e) (least_passes (may_follow parents done) (length parents) i e)))
+    (λ i e. kept_on P parents step (done ++ i ∷ []) n (step done i h (least_within (may_follow parents done) (length parents) i e) (least_passes
+    (may_follow parents done) (length parents) i e)))
 
 not_done : (parents : List (List ℕ)) (done : List ℕ) (i : ℕ) → may_follow parents done i ≡ true → is_among done i ≡ false
 not_done parents done i h =
     false_of (is_among done i) (first_of (not (is_among done i)) (list_all (λ p. is_among done p || not (nat_lt p (length parents))) (row_at parents i)) h)
 
-all_above : (parents : List (List ℕ)) (done : List ℕ) (i : ℕ) → may_follow parents done i ≡ true → list_all (λ p. is_among done p || not (nat_lt p (length parents))) (row_at parents i) ≡ true
+all_above : (parents : List (List ℕ)) (done : List ℕ) (i : ℕ) → may_follow parents done i ≡ true → list_all (λ p. is_among done p
+    || not (nat_lt p (length parents))) (row_at parents i) ≡ true
 all_above parents done i h = second_of (not (is_among done i)) (list_all (λ p. is_among done p || not (nat_lt p (length parents))) (row_at parents i)) h
 
 none_without : (n : ℕ) → length (places_without [] n) ≡ n
@@ -116,7 +121,8 @@ counted parents =
 
 stuck_by : (parents : List (List ℕ)) (done : List ℕ) (n : ℕ) (o : Option ℕ) → o ≡ least_below (may_follow parents done) (length parents) →
     length (option_map_or (λ i. numbered_on parents (done ++ i ∷ []) n) o done) < length done + suc n →
-    ((i : ℕ) → length (numbered_on parents (done ++ i ∷ []) n) < length (done ++ i ∷ []) + n → least_below (may_follow parents (numbered_on parents (done ++ i ∷ []) n)) (length parents) ≡ None) →
+    ((i : ℕ) → length (numbered_on parents (done ++ i ∷ []) n) < length (done ++ i ∷ []) + n → least_below (may_follow parents (numbered_on parents (done ++ i
+    ∷ []) n)) (length parents) ≡ None) →
     least_below (may_follow parents (option_map_or (λ i. numbered_on parents (done ++ i ∷ []) n) o done)) (length parents) ≡ None
 stuck_by parents done n None e h f = sym e
 stuck_by parents done n (Some i) e h f = f i (let more = length-append done (i ∷ []) in omega arith)
@@ -203,9 +209,11 @@ module _ (parents : List (List ℕ)) (short : length (numbering parents) < lengt
   has_parent : (c : ℕ) → c < length parents → is_among (numbering parents) c ≡ false → list_any (is_among left) (row_at parents c) ≡ true
   has_parent c low e =
       some_pass (λ p. is_among (numbering parents) p || not (nat_lt p (length parents))) (is_among left) (row_at parents c)
-      (λ p f. is_without (numbering parents) (length parents) p (is_low p (length parents) (right_true (is_among (numbering parents) p) (nat_lt p (length parents)) f)) (left_false (is_among (numbering parents) p) (not (nat_lt p (length parents))) f))
+      (λ p f. is_without (numbering parents) (length parents) p (is_low p (length parents) (right_true (is_among (numbering parents) p) (nat_lt p
+      (length parents)) f)) (left_false (is_among (numbering parents) p) (not (nat_lt p (length parents))) f))
       (sym (ap (λ b. not b && list_all (λ p. is_among (numbering parents) p || not (nat_lt p (length parents))) (row_at parents c)) e)
-      ∙ none_passes (may_follow parents (numbering parents)) (length parents) c (stuck_end parents [] (length parents) (let s : length (numbered_on parents [] (length parents)) < length parents = short in omega arith)) low)
+      ∙ none_passes (may_follow parents (numbering parents)) (length parents) c (stuck_end parents [] (length parents) (let s : length (numbered_on parents []
+      (length parents)) < length parents = short in omega arith)) low)
 
   pub left_go_round : GoRound parents left
   left_go_round = record {
@@ -282,7 +290,8 @@ cycle_found parents (c ∷ cs) r =
     low_is (length (numbering parents)) (length parents) (unfinished parents (c ∷ cs) r.each c (ap (λ b. b || is_among cs c) (alike c c refl)))
 
 -- the rows of the first classes
-front : (parents : List (List ℕ)) (a b c : ℕ) → a ≤ b → c < length (take a parents) → (c < length (take b parents)) × (row_at (take a parents) c ≡ row_at (take b parents) c)
+front : (parents : List (List ℕ)) (a b c : ℕ) → a ≤ b → c < length (take a parents) → (c < length (take b parents)) × (row_at (take a parents) c ≡ row_at
+    (take b parents) c)
 front [] zero b c h low = absurd (omega arith)
 front [] (suc a) b c h low = absurd (omega arith)
 front (r ∷ rs) zero b c h low = absurd (omega arith)
@@ -290,7 +299,8 @@ front (r ∷ rs) (suc a) zero c h low = absurd (omega arith)
 front (r ∷ rs) (suc a) (suc b) zero h low = (omega arith, refl)
 front (r ∷ rs) (suc a) (suc b) (suc c) h low = let next = front rs a b c (omega arith) (omega arith) in (let k = next.0 in omega arith, next.1)
 
-still : (parents : List (List ℕ)) (a b : ℕ) (cs : List ℕ) (c : ℕ) → a ≤ b → (nat_lt c (length (take a parents)) && list_any (is_among cs) (row_at (take a parents) c)) ≡ true →
+still : (parents : List (List ℕ)) (a b : ℕ) (cs : List ℕ) (c : ℕ) → a ≤ b → (nat_lt c (length (take a parents))
+    && list_any (is_among cs) (row_at (take a parents) c)) ≡ true →
     (nat_lt c (length (take b parents)) && list_any (is_among cs) (row_at (take b parents) c)) ≡ true
 still parents a b cs c h e =
     let low = is_low c (length (take a parents)) (first_of (nat_lt c (length (take a parents))) (list_any (is_among cs) (row_at (take a parents) c)) e) in
@@ -306,7 +316,8 @@ cycle_stays parents a b h e =
     cycle_found (take b parents) cs (record {
       some = round.some;
       each = test_all (λ c. nat_lt c (length (take b parents)) && list_any (is_among cs) (row_at (take b parents) c)) cs
-          (weaker (λ c k. still parents a b cs c h k) cs (all_from_test (λ c. nat_lt c (length (take a parents)) && list_any (is_among cs) (row_at (take a parents) c)) cs round.each));
+          (weaker (λ c k. still parents a b cs c h k) cs (all_from_test (λ c. nat_lt c (length (take a parents))
+          && list_any (is_among cs) (row_at (take a parents) c)) cs round.each));
     })
 
 -- one class more closes a cycle
@@ -314,13 +325,15 @@ pub closing : (parents : List (List ℕ)) (low : ℕ) → low < length parents �
     least_below (closes_cycle parents) (length parents) ≡ Some low
 closing parents low h before after =
     least_found (closes_cycle parents) (length parents) low
-    (least_none (closes_cycle parents) low (λ i k. ⊎_elim (λ e. absurd (true≢false (sym (cycle_stays parents (suc i) low (omega arith) e) ∙ before))) (λ e. e) (cases_Bool (has_cycle parents (suc i)))))
+    (least_none (closes_cycle parents) low (λ i k. ⊎_elim (λ e. absurd (true≢false (sym (cycle_stays parents (suc i) low (omega arith) e)
+    ∙ before))) (λ e. e) (cases_Bool (has_cycle parents (suc i)))))
     after h
 
 -- without a cycle every class has one number
 module _ (parents : List (List ℕ)) (none : nat_lt (length (numbering parents)) (length parents) ≡ false) where
   enough : length parents ≤ length (numbering parents)
-  enough = ⊎_elim (λ t. absurd (true≢false (sym t.0 ∙ none))) (λ t. let k : length parents < suc (length (numbering parents)) = t.1 in omega arith) (leb_tells (suc (length (numbering parents))) (length parents))
+  enough = ⊎_elim (λ t. absurd (true≢false (sym t.0 ∙ none))) (λ t. let k : length parents < suc (length (numbering parents)) = t.1
+      in omega arith) (leb_tells (suc (length (numbering parents))) (length parents))
 
   pub numbers_each : NumbersEach (numbering parents) (length parents)
   numbers_each = record {

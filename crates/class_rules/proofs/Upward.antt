@@ -109,9 +109,13 @@ module _ (parents : List (List ℕ)) where
     pub same : (z : ℕ) → (is_above todo z || is_in found z) ≡ is_in (above_class parents class) z
 
   pub searched_start : (class : ℕ) → IsSearched class (class ∷ []) []
-  searched_start class = record { same = λ z. sym (or_false (is_above (class ∷ []) z)) ∙ is_in-append (above_class parents class) [] z ∙ sym (or_false (is_in (above_class parents class) z)) }
+  searched_start class = record {
+    same = λ z. sym (or_false (is_above (class ∷ []) z)) ∙ is_in-append (above_class parents class) [] z
+        ∙ sym (or_false (is_in (above_class parents class) z));
+  }
 
-  pub searched_on : IsDownward parents → (class k : ℕ) (ks found : List ℕ) → IsSearched class (ks ++ k ∷ []) found → IsSearched class (fold (insert_key nat_cmp) ks (row_at parents k)) (insert_key nat_cmp found k)
+  pub searched_on : IsDownward parents → (class k : ℕ) (ks found : List ℕ) → IsSearched class (ks ++ k ∷ []) found
+      → IsSearched class (fold (insert_key nat_cmp) ks (row_at parents k)) (insert_key nat_cmp found k)
   searched_on down class k ks found before = record {
     same = λ z.
         let a = is_above ks z in
@@ -120,7 +124,8 @@ module _ (parents : List (List ℕ)) where
         let f = is_in found z in
         let one = ap (λ l. is_in l z) (above_class_is parents down k) in
         let last = is_in-append (above_class parents k) [] z ∙ ap (λ b. b || false) one in
-        let all = ap (λ l. is_in l z) (flat_map-append (above_class parents) ks (k ∷ [])) ∙ is_in-append (above_all parents ks) (above_class parents k ++ []) z ∙ ap (λ b. a || b) last in
+        let all = ap (λ l. is_in l z) (flat_map-append (above_class parents) ks (k ∷ [])) ∙ is_in-append (above_all parents ks) (above_class parents k ++ []) z
+        ∙ ap (λ b. a || b) last in
         ap₂ (λ p q. p || q) (above_fold ks (row_at parents k) z) (ap (λ l. is_in l z) (insert_same found k) ∙ has-insert_new nat_cmp_total found k z)
         ∙ shuffle a r e f
         ∙ ap (λ b. b || f) (sym all)
@@ -143,13 +148,16 @@ top_last : (xs : List ℕ) (k : ℕ) → k < top (xs ++ k ∷ [])
 top_last [] k = omega arith
 top_last (x ∷ xs) k = let rest = top_last xs k in omega arith
 
-all_fold : (n : ℕ) (ks cs : List ℕ) → AllByRecursion (λ x. x < n) ks → AllByRecursion (λ x. x < n) cs → AllByRecursion (λ x. x < n) (fold (insert_key nat_cmp) ks cs)
+all_fold : (n : ℕ) (ks cs : List ℕ) → AllByRecursion (λ x. x < n) ks → AllByRecursion (λ x. x < n) cs
+    → AllByRecursion (λ x. x < n) (fold (insert_key nat_cmp) ks cs)
 all_fold n ks [] h g = h
 all_fold n ks (c ∷ cs) h g =
-    all_fold n (insert_key nat_cmp ks c) cs (subst (AllByRecursion (λ x. x < n)) (sym (insert_same ks c)) (all-insert_new nat_cmp_total (λ x. x < n) ks c g.0 h)) g.1
+    all_fold n (insert_key nat_cmp ks c) cs (subst (AllByRecursion (λ x. x < n)) (sym (insert_same ks c)) (all-insert_new nat_cmp_total
+    (λ x. x < n) ks c g.0 h)) g.1
 
 -- what is still to be gone through gets smaller
-pub top_falls : (parents : List (List ℕ)) → IsDownward parents → (ks : List ℕ) (k : ℕ) → AllByRecursion (λ x. x < k) ks → top (fold (insert_key nat_cmp) ks (row_at parents k)) < top (ks ++ k ∷ [])
+pub top_falls : (parents : List (List ℕ)) → IsDownward parents → (ks : List ℕ) (k : ℕ) → AllByRecursion (λ x. x < k) ks
+    → top (fold (insert_key nat_cmp) ks (row_at parents k)) < top (ks ++ k ∷ [])
 top_falls parents down ks k h =
     let low = top_below k (fold (insert_key nat_cmp) ks (row_at parents k)) (all_fold k ks (row_at parents k) h (down k)) in
     let high = top_last ks k in

@@ -20,7 +20,7 @@ pub put_as : (res : Result (Unit {0}) ParseFault) (new old old' : List Node) (r 
     → old ≡ old' → first ≡ first' → count ≡ count' → Put res old' new (Rule r first' count')
 put_as res new old old' r first first' count count' h e f k =
     subst (λ (l : List Node). Put res l new (Rule r first' count')) e (subst (λ (n : ℕ). Put res old new (Rule r n count')) f (subst (λ (n : ℕ). Put res old new
-        (Rule r first n)) k h))
+    (Rule r first n)) k h))
 
 pub push_built : (res : Result (Unit {0}) ParseFault) (nodes old new : List Node) (k at : ℕ) → Put res old new (Token k at) → IsBuilt (built nodes old)
     → IsBuilt (built nodes new)
@@ -55,10 +55,18 @@ module _ (nodes waiting : List Node) (r start i : ℕ) (b : IsBuilt (built nodes
       → IsBuilt (built (nodes ++ drop i waiting) new)
   close_built (Ok u) new h =
       let l = low in
-      let p : length nodes + (length waiting - i) ≤ length (nodes ++ drop i waiting) = omega (arith, l, length-append nodes
-          (drop i waiting), length-drop i waiting) in
-      rw h (record { placed = arena; ahead = ArePlaced-snoc (length (nodes ++ drop i waiting)) (take i waiting) (Rule r (length nodes)
-          (length waiting - i)) rest_ahead p })
+      let p : length nodes + (length waiting - i) ≤ length (nodes ++ drop i waiting) = omega (
+        arith,
+        l,
+        length-append nodes
+            (drop i waiting),
+        length-drop i waiting,
+      ) in
+      rw h (record {
+        placed = arena;
+        ahead = ArePlaced-snoc (length (nodes ++ drop i waiting)) (take i waiting) (Rule r (length nodes)
+            (length waiting - i)) rest_ahead p;
+      })
   close_built (Err e) new h = rw (h.1) (record { placed = arena; ahead = rest_ahead })
 
   pub close_reads : (res : Result (Unit {0}) ParseFault) (new : List Node) → Put res (take i waiting) new (Rule r (length nodes) (length waiting - i))
@@ -68,7 +76,7 @@ module _ (nodes waiting : List Node) (r start i : ℕ) (b : IsBuilt (built nodes
       let long : length done ≡ length waiting = length-map waiting (λ n. tree_with (node_trees nodes) n) in
       let e : i ≡ min (length done) start = least ∙ ap (λ (k : ℕ). min k start) (sym long) in
       ap (λ (l : List Node). read_trees (built (nodes ++ drop i waiting) l)) h ∙ read_close nodes waiting r i b.ahead low ∙ ap (λ (k : ℕ). closed r k done) e
-          ∙ closed_past r start done
+      ∙ closed_past r start done
   close_reads (Err e) new h = h.0
 
 -- the last element alone
@@ -105,8 +113,14 @@ get_last {X = X} xs x = let e : length (xs ++ (x ∷ [])) - 1 ≡ length xs = om
 
 -- the last node that waits, behind the others: the root
 pub root_built : (nodes rest : List Node) (root : Node) → IsBuilt (built nodes (rest ++ (root ∷ []))) → IsTree (nodes ++ (root ∷ []))
-root_built nodes rest root b = let l = ArePlaced-last (length nodes) rest root b.ahead in record { some = omega (arith, length-append nodes (root
-    ∷ [])); placed = IsArena-after nodes (root ∷ []) b.placed (l.1, tt) }
+root_built nodes rest root b = let l = ArePlaced-last (length nodes) rest root b.ahead in record {
+  some = omega (
+    arith,
+    length-append nodes (root
+        ∷ []),
+  );
+  placed = IsArena-after nodes (root ∷ []) b.placed (l.1, tt);
+}
 
 pub root_read : (nodes rest : List Node) (root : Node) → IsBuilt (built nodes (rest ++ (root ∷ []))) → slice_get (read_trees (built nodes (rest ++ (root
     ∷ [])))) (length (read_trees (built nodes (rest ++ (root ∷ [])))) - 1) ≡ Some (root_tree (nodes ++ (root ∷ [])))
@@ -118,10 +132,15 @@ root_read nodes rest root b =
     let all : node_trees (nodes ++ (root ∷ [])) ≡ node_trees nodes ++ (t ∷ []) = node_trees-append nodes (root ∷ []) (l.1, tt) in
     let here : slice_get (map f rest ++ (t ∷ [])) (length (map f rest ++ (t ∷ [])) - 1) ≡ Some t = get_last (map f rest) t in
     let there : slice_get (node_trees nodes ++ (t ∷ [])) (length (node_trees nodes ++ (t ∷ [])) - 1) ≡ Some t = get_last (node_trees nodes) t in
-    let n : length (node_trees nodes ++ (t ∷ [])) - 1 ≡ length (nodes ++ (root ∷ [])) - 1 = omega (arith, length-append (node_trees nodes) (t
-        ∷ []), length-append nodes (root ∷ []), length-node_trees nodes) in
+    let n : length (node_trees nodes ++ (t ∷ [])) - 1 ≡ length (nodes ++ (root ∷ [])) - 1 = omega (
+      arith,
+      length-append (node_trees nodes) (t
+          ∷ []),
+      length-append nodes (root ∷ []),
+      length-node_trees nodes,
+    ) in
     let last : slice_get (node_trees (nodes ++ (root ∷ []))) (length (nodes ++ (root ∷ [])) - 1) ≡ Some t = ap (λ (x : List ParseTree). slice_get x (length
-        (nodes ++ (root ∷ [])) - 1)) all ∙ subst (λ (k : ℕ). slice_get (node_trees nodes ++ (t ∷ [])) k ≡ Some t) n there in
+    (nodes ++ (root ∷ [])) - 1)) all ∙ subst (λ (k : ℕ). slice_get (node_trees nodes ++ (t ∷ [])) k ≡ Some t) n there in
     let is : root_tree (nodes ++ (root ∷ [])) ≡ t = get_or_from_slice_get (node_trees (nodes ++ (root ∷ []))) (length (nodes ++ (root
-        ∷ [])) - 1) t (leaf 0 0) last in
+    ∷ [])) - 1) t (leaf 0 0) last in
     ap (λ (x : List ParseTree). slice_get x (length x - 1)) reads ∙ here ∙ ap (λ (x : ParseTree). Some x) (sym is)

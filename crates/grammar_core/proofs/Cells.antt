@@ -35,7 +35,7 @@ pub cell_tells : (all : List (List (Option ℕ))) (tokens : List Token) (at p : 
     → (prods : List Prod) (x : Prod) → AreByKind prods all → slice_get prods p ≡ Some x → told ≡ choice (kinds tokens) at x
 cell_tells all tokens at p token cells told e f h prods x by there =
     let next : slice_get (kinds tokens) at ≡ Some token.kind = slice_get-map (λ t. t.kind) tokens at
-        ∙ ap (λ (o : Option Token). option_map (λ t. t.kind) o) e in
+    ∙ ap (λ (o : Option Token). option_map (λ t. t.kind) o) e in
     let is = by p x cells there f token.kind (slice_get_within cells token.kind told h) in
     let same : told ≡ choice (token.kind ∷ []) 0 x = cc in
     same ∙ choice_same (kinds tokens) at token.kind next x

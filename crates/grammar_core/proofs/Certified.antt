@@ -56,8 +56,13 @@ module _ (g : Table) (ranks : List ℕ) (seen : List Bool) where
       let s = both ((a && b) && c) d e in
       let t = both (a && b) c s.0 in
       let u = both a b t.0 in
-      record { inside = not_true (outside_by g x) u.0; below = u.1; reads = not_true (empty_body_by seen x) t.1; marked = implied (empty_by g.rules seen x)
-          (is_marked seen p) s.1 }
+      record {
+        inside = not_true (outside_by g x) u.0;
+        below = u.1;
+        reads = not_true (empty_body_by seen x) t.1;
+        marked = implied (empty_by g.rules seen x)
+            (is_marked seen p) s.1;
+      }
 
   rows_at : (xs : List Prod) (i k : ℕ) (x : Prod) → are_certified g ranks seen i xs ≡ true → slice_get xs k ≡ Some x → IsCertifiedAt g ranks seen (i + k) x
   rows_at [] i k x e h = (cc)

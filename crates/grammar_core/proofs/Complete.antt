@@ -116,24 +116,24 @@ module _ (g : Table) (ks : List ℕ) where
     complete_of _ _ _ _ (GivesProd.times firsts q level at a all) h done n = complete_times firsts q level at a all h (suc (length ks - at)) done n
     complete_of _ _ _ _ (GivesProd.rule r rule level inner at a e f of) h done n =
         rw e (subst (λ (z : Answer). Agrees z (before done (below_rule r a))) (sym (at_level rule.nests (nat_lt level max_level) level inner f
-            (λ l. close r done (answer g ks h rule.to l at done n)) (Answer.deep at n))) (closed_agrees r done (answer g ks h rule.to inner at done n) a
-            (complete rule.to inner at a of h done n)))
+        (λ l. close r done (answer g ks h rule.to l at done n)) (Answer.deep at n))) (closed_agrees r done (answer g ks h rule.to inner at done n) a
+        (complete rule.to inner at a of h done n)))
     complete_of _ _ _ _ (GivesProd.too_deep r rule level at e f) h done n =
         rw e (inr (ap (λ (z : Answer). outcome_of z) (at_no_level rule.nests (nat_lt level max_level) level f (λ l. close r done
-            (answer g ks h rule.to l at done n)) (Answer.deep at n))))
+        (answer g ks h rule.to l at done n)) (Answer.deep at n))))
 
     complete_all : (ps : List ℕ) (level at : ℕ) (a : Outcome) → GivesAll g ks ps level at a → (h : ℕ) (done : List ParseTree) (n : ℕ)
         → Agrees (in_turn (λ q. answer g ks h q level) ps at done n) (before done a)
     complete_all _ _ _ _ (GivesAll.all_done level at) h done n = inr (ap (λ (l : List ParseTree). Some (Outcome.ends at l)) (sym (append-nil done)))
     complete_all _ _ _ _ (GivesAll.then p ps level at to trees b of all) h done n =
         then_ends (answer g ks h p level at done n) (λ to more m. in_turn (λ q. answer g ks h q level) ps to more m) to (done
-            ++ trees) (before done (before trees b)) (complete p level at (Outcome.ends to trees) of h done n) (λ m. subst (λ (z : Outcome). Agrees (in_turn
-            (λ q. answer g ks h q level) ps to (done ++ trees) m) z) (before_before done trees b) (complete_all ps level to b all h (done ++ trees) m))
+        ++ trees) (before done (before trees b)) (complete p level at (Outcome.ends to trees) of h done n) (λ m. subst (λ (z : Outcome). Agrees (in_turn
+        (λ q. answer g ks h q level) ps to (done ++ trees) m) z) (before_before done trees b) (complete_all ps level to b all h (done ++ trees) m))
     complete_all _ _ _ _ (GivesAll.stop p ps level at a of s) h done n =
         subst (λ (z : Outcome). Agrees (then_at (answer g ks h p level at done n) (λ to more m. in_turn (λ q. answer g ks h q level) ps to more m)) z) (sym
-            (before_stop done a s))
+        (before_stop done a s))
         (then_stops (answer g ks h p level at done n) (λ to more m. in_turn (λ q. answer g ks h q level) ps to more m) a s (subst (λ (z : Outcome). Agrees
-            (answer g ks h p level at done n) z) (before_stop done a s) (complete p level at a of h done n)))
+        (answer g ks h p level at done n) z) (before_stop done a s) (complete p level at a of h done n)))
 
     complete_times : (firsts : List ℕ) (q level at : ℕ) (a : Outcome) → GivesTimes g ks firsts q level at a → (h k : ℕ) (done : List ParseTree) (n : ℕ)
         → Agrees (again ks firsts (λ from so_far m. answer g ks h q level from so_far m) k at done n) (before done a)
@@ -144,11 +144,11 @@ module _ (g : Table) (ks : List ℕ) where
         (append-nil done))))
     complete_times _ _ _ _ _ (GivesTimes.once_more firsts q level at to trees b e of all) h (suc k) done n =
         rw e (then_ends (answer g ks h q level at done n) (λ to more m. again ks firsts (λ from so_far i. answer g ks h q level from so_far i) k to more
-            (suc m)) to (done ++ trees) (before done (before trees b)) (complete q level at (Outcome.ends to trees) of h done n) (λ m. subst (λ
-            (z : Outcome). Agrees (again ks firsts (λ from so_far i. answer g ks h q level from so_far i) k to (done
-            ++ trees) (suc m)) z) (before_before done trees b) (complete_times firsts q level to b all h k (done ++ trees) (suc m))))
+        (suc m)) to (done ++ trees) (before done (before trees b)) (complete q level at (Outcome.ends to trees) of h done n) (λ m. subst (λ
+        (z : Outcome). Agrees (again ks firsts (λ from so_far i. answer g ks h q level from so_far i) k to (done
+        ++ trees) (suc m)) z) (before_before done trees b) (complete_times firsts q level to b all h k (done ++ trees) (suc m))))
     complete_times _ _ _ _ _ (GivesTimes.stop_in firsts q level at a e of s) h (suc k) done n =
         rw e (subst (λ (z : Outcome). Agrees (then_at (answer g ks h q level at done n) (λ to more m. again ks firsts
-            (λ from so_far i. answer g ks h q level from so_far i) k to more (suc m))) z) (sym (before_stop done a s))
+        (λ from so_far i. answer g ks h q level from so_far i) k to more (suc m))) z) (sym (before_stop done a s))
         (then_stops (answer g ks h q level at done n) (λ to more m. again ks firsts (λ from so_far i. answer g ks h q level from so_far i) k to more
-            (suc m)) a s (subst (λ (z : Outcome). Agrees (answer g ks h q level at done n) z) (before_stop done a s) (complete q level at a of h done n))))
+        (suc m)) a s (subst (λ (z : Outcome). Agrees (answer g ks h q level at done n) z) (before_stop done a s) (complete q level at a of h done n))))

@@ -45,4 +45,4 @@ pub rank_falls : (graph : List (List ℕ)) (p q : ℕ) (row_p row_q : List Bool)
     → q < length graph → (Path graph q q → ⊥) → marks row_q < marks row_p
 rank_falls graph p q row_p row_q rp rq edge inside no_cycle =
     marks_less row_q row_p (rq.long ∙ sym rp.long) (λ r m. rp.complete r (after graph p q edge inside r (rq.sound r m))) q (rp.complete q
-        (Path.first q edge inside)) (not_true (is_marked row_q q) (λ m. no_cycle (rq.sound q m)))
+    (Path.first q edge inside)) (not_true (is_marked row_q q) (λ m. no_cycle (rq.sound q m)))

@@ -130,7 +130,7 @@ module _ (g : Table) where
       let next : List Bool = cond (empty_by g.rules seen y) (set_mark seen i) seen in
       subst (λ (j : ℕ). is_marked (empty_sweep g.rules next (i + 1) xs) j ≡ true) n
       (sweep_marks xs (i + 1) next k x e (empty_within seen next (λ q. step_keeps (empty_by g.rules seen y) seen i q) g.rules x m) (omega
-          (arith, inside, step_length (empty_by g.rules seen y) seen i)))
+      (arith, inside, step_length (empty_by g.rules seen y) seen i)))
 
   -- a sweep that marks no more has marked each production whose parts say so
   marked_at : (seen : List Bool) → length seen ≡ length g.prods → empty_sweep g.rules seen 0 g.prods ≡ seen → (p : ℕ) (x : Prod) → slice_get g.prods p ≡ Some x
@@ -139,7 +139,7 @@ module _ (g : Table) where
       let z : 0 + p ≡ p = omega arith in
       let inside = slice_get_within g.prods p x e in
       subst (λ (l : List Bool). is_marked l p ≡ true) same (subst (λ (j : ℕ). is_marked (empty_sweep g.rules seen 0 g.prods) j ≡ true) z
-          (sweep_marks g.prods 0 seen p x e m (omega (arith, inside, long))))
+      (sweep_marks g.prods 0 seen p x e m (omega (arith, inside, long))))
 
   module _ (seen : List Bool) (closed : (p : ℕ) (x : Prod) → slice_get g.prods p ≡ Some x → empty_by g.rules seen x ≡ true → is_marked seen p ≡ true) where
     any_of : (q : ℕ) (ps : List ℕ) → IsIn q ps → is_marked seen q ≡ true → any_marked seen ps ≡ true

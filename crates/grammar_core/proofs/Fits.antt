@@ -91,8 +91,12 @@ module _ (g : Table) (fit : IsFit g) where
   rule_there r h =
       ⊎_elim
       (λ to. ⊎_elim
-      (λ n. (record { to = to.0; nests = n.0 }, ap (λ (o : Option ℕ). rule_from o (slice_get g.nests r)) to.2
-          ∙ ap (λ (o : Option Bool). rule_from (Some to.0) o) n.2, all_inside_at (length g.prods) g.rules fit.table.inside r to.0 to.2))
+      (λ n. (
+        record { to = to.0; nests = n.0 },
+        ap (λ (o : Option ℕ). rule_from o (slice_get g.nests r)) to.2
+            ∙ ap (λ (o : Option Bool). rule_from (Some to.0) o) n.2,
+        all_inside_at (length g.prods) g.rules fit.table.inside r to.0 to.2,
+      ))
       (λ past. absurd (omega (arith, past.0, h, fit.table.paired))) (slice_get_cases g.nests r).1)
       (λ past. absurd (omega (arith, past.0, h))) (slice_get_cases g.rules r).1
 

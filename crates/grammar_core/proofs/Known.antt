@@ -48,14 +48,25 @@ module _ (g : Table) (ks : List ℕ) (h : ℕ) (p level : ℕ) (known : (q l : �
   then_known : (q : ℕ) (qs : List ℕ) (at : ℕ) → ((to : ℕ) → All qs to) → (a : Outcome) → Gives g ks q level at a → ((done : List ParseTree) (n : ℕ)
       → outcome_of (answer g ks h q level at done n) ≡ Some (before done a)) → All (q ∷ qs) at
   then_known q qs at rest (Outcome.ends to trees) gives is =
-      let r = rest to in
-      (before trees r.0, GivesAll.then q qs level at to trees r.0 gives r.1, λ done n. then_some (answer g ks h q level at done n) (λ to more m. in_turn
-          (λ x. answer g ks h x level) qs to more m) to (done ++ trees) (λ b. outcome_of b ≡ Some (before done (before trees r.0))) (is done n)
-          (λ m. before_more done trees r.0 (outcome_of (in_turn (λ x. answer g ks h x level) qs to (done ++ trees) m)) (r.2 (done ++ trees) m)))
-  then_known q qs at rest (Outcome.stuck x) gives is = (Outcome.stuck x, GivesAll.stop q qs level at (Outcome.stuck x) gives tt, λ done n. stop_some
-      (answer g ks h q level at done n) (λ to more m. in_turn (λ x. answer g ks h x level) qs to more m) (Outcome.stuck x) tt (is done n))
-  then_known q qs at rest (Outcome.deep x) gives is = (Outcome.deep x, GivesAll.stop q qs level at (Outcome.deep x) gives tt, λ done n. stop_some
-      (answer g ks h q level at done n) (λ to more m. in_turn (λ x. answer g ks h x level) qs to more m) (Outcome.deep x) tt (is done n))
+      let r = rest to in (
+        before trees r.0,
+        GivesAll.then q qs level at to trees r.0 gives r.1,
+        λ done n. then_some (answer g ks h q level at done n) (λ to more m. in_turn
+            (λ x. answer g ks h x level) qs to more m) to (done ++ trees) (λ b. outcome_of b ≡ Some (before done (before trees r.0))) (is done n)
+            (λ m. before_more done trees r.0 (outcome_of (in_turn (λ x. answer g ks h x level) qs to (done ++ trees) m)) (r.2 (done ++ trees) m)),
+      )
+  then_known q qs at rest (Outcome.stuck x) gives is = (
+    Outcome.stuck x,
+    GivesAll.stop q qs level at (Outcome.stuck x) gives tt,
+    λ done n. stop_some
+        (answer g ks h q level at done n) (λ to more m. in_turn (λ x. answer g ks h x level) qs to more m) (Outcome.stuck x) tt (is done n),
+  )
+  then_known q qs at rest (Outcome.deep x) gives is = (
+    Outcome.deep x,
+    GivesAll.stop q qs level at (Outcome.deep x) gives tt,
+    λ done n. stop_some
+        (answer g ks h q level at done n) (λ to more m. in_turn (λ x. answer g ks h x level) qs to more m) (Outcome.deep x) tt (is done n),
+  )
 
   all_known : (ps : List ℕ) → AllBelow g p ps → (at : ℕ) → All ps at
   all_known [] b at = (Outcome.ends at [], GivesAll.all_done level at, λ done n. ap (λ (l : List ParseTree). Some (Outcome.ends at l)) (sym (append-nil done)))
@@ -76,24 +87,39 @@ module _ (g : Table) (ks : List ℕ) (h : ℕ) (p level : ℕ) (known : (q l : �
         → ((done : List ParseTree) (n : ℕ) → outcome_of (answer g ks h q level at done n) ≡ Some (before done a)) → Times firsts q (suc k) at
     more_known k at few rest e (Outcome.ends to trees) gives is =
         let further : at < to = moves_on (MayBeEmpty g q) at to never (moved_some (MayBeEmpty g q) at to trees (answer g ks h q level at [] 0) (is [] 0)
-            (moved g ks h q level at [] 0)) in
+        (moved g ks h q level at [] 0)) in
         let inside = begins_inside ks at firsts e in
-        let r = rest to (omega (arith, further, inside)) in
-        (before trees r.0, GivesTimes.once_more firsts q level at to trees r.0 e gives r.1, λ done n. rw e (then_some (answer g ks h q level at done n)
-            (λ to more m. again ks firsts (λ from so_far i. answer g ks h q level from so_far i) k to more (suc m)) to (done
-            ++ trees) (λ b. outcome_of b ≡ Some (before done (before trees r.0))) (is done n) (λ m. before_more done trees r.0 (outcome_of (again ks firsts
-            (λ from so_far i. answer g ks h q level from so_far i) k to (done ++ trees) (suc m))) (r.2 (done ++ trees) (suc m)))))
-    more_known k at few rest e (Outcome.stuck x) gives is = (Outcome.stuck x, GivesTimes.stop_in firsts q level at (Outcome.stuck x) e gives tt, λ done n. rw e
-        (stop_some (answer g ks h q level at done n) (λ to more m. again ks firsts (λ from so_far i. answer g ks h q level from so_far i) k to more (suc m))
-        (Outcome.stuck x) tt (is done n)))
-    more_known k at few rest e (Outcome.deep x) gives is = (Outcome.deep x, GivesTimes.stop_in firsts q level at (Outcome.deep x) e gives tt, λ done n. rw e
-        (stop_some (answer g ks h q level at done n) (λ to more m. again ks firsts (λ from so_far i. answer g ks h q level from so_far i) k to more (suc m))
-        (Outcome.deep x) tt (is done n)))
+        let r = rest to (omega (arith, further, inside)) in (
+          before trees r.0,
+          GivesTimes.once_more firsts q level at to trees r.0 e gives r.1,
+          λ done n. rw e (then_some (answer g ks h q level at done n)
+              (λ to more m. again ks firsts (λ from so_far i. answer g ks h q level from so_far i) k to more (suc m)) to (done
+              ++ trees) (λ b. outcome_of b ≡ Some (before done (before trees r.0))) (is done n) (λ m. before_more done trees r.0 (outcome_of (again ks firsts
+              (λ from so_far i. answer g ks h q level from so_far i) k to (done ++ trees) (suc m))) (r.2 (done ++ trees) (suc m)))),
+        )
+    more_known k at few rest e (Outcome.stuck x) gives is = (
+      Outcome.stuck x,
+      GivesTimes.stop_in firsts q level at (Outcome.stuck x) e gives tt,
+      λ done n. rw e
+          (stop_some (answer g ks h q level at done n) (λ to more m. again ks firsts (λ from so_far i. answer g ks h q level from so_far i) k to more (suc m))
+          (Outcome.stuck x) tt (is done n)),
+    )
+    more_known k at few rest e (Outcome.deep x) gives is = (
+      Outcome.deep x,
+      GivesTimes.stop_in firsts q level at (Outcome.deep x) e gives tt,
+      λ done n. rw e
+          (stop_some (answer g ks h q level at done n) (λ to more m. again ks firsts (λ from so_far i. answer g ks h q level from so_far i) k to more (suc m))
+          (Outcome.deep x) tt (is done n)),
+    )
 
     times_by : (k at : ℕ) → length ks - at < suc k → Rest k → (v : Bool) → begins ks at firsts ≡ v → Times firsts q (suc k) at
     times_by k at few rest true e = let o = one_known q b at in more_known k at few rest e o.0 o.1 o.2
-    times_by k at few rest false e = (Outcome.ends at [], GivesTimes.no_more firsts q level at e, λ done n. rw e (ap (λ (l : List ParseTree). Some
-        (Outcome.ends at l)) (sym (append-nil done))))
+    times_by k at few rest false e = (
+      Outcome.ends at [],
+      GivesTimes.no_more firsts q level at e,
+      λ done n. rw e (ap (λ (l : List ParseTree). Some
+          (Outcome.ends at l)) (sym (append-nil done))),
+    )
 
     times_known : (k at : ℕ) → length ks - at < k → Times firsts q k at
     times_known zero at few = absurd (omega arith)
@@ -107,8 +133,12 @@ module _ (g : Table) (ks : List ℕ) (one : ℕ → ℕ → Reading) (level : �
   inner_known : (inner : ℕ) → level_in rule level ≡ Some inner → ((done : List ParseTree) (n : ℕ)
       → of_rule one r level (Some rule) at done n ≡ close r done (one rule.to inner at done n))
       → Known (Gives g ks rule.to inner at) (λ done n. one rule.to inner at done n) → OfCall
-  inner_known inner f is k = (below_rule r k.0, GivesProd.rule r rule level inner at k.0 e f k.1, λ done n. rw e (ap (λ (z : Answer). outcome_of z) (is done n)
-      ∙ closed_some r done (one rule.to inner at done n) k.0 (k.2 done n)))
+  inner_known inner f is k = (
+    below_rule r k.0,
+    GivesProd.rule r rule level inner at k.0 e f k.1,
+    λ done n. rw e (ap (λ (z : Answer). outcome_of z) (is done n)
+        ∙ closed_some r done (one rule.to inner at done n) k.0 (k.2 done n)),
+  )
 
   pub call_known : (n v : Bool) → rule.nests ≡ n → nat_lt level max_level ≡ v → (n ≡ true → v ≡ true
       → Known (Gives g ks rule.to (level + 1) at) (λ done m. one rule.to (level + 1) at done m)) → (n ≡ false
@@ -190,5 +220,5 @@ module _ (g : Table) (fit : IsFit g) (ks : List ℕ) where
   start_only r level at h a given =
       let k = start_known r level at h in
       let o = known_only (GivesProd g ks (Call r) level at) (λ done n. of_production g ks (λ q l from so_far m. whole g ks q l from so_far m) level (Some
-          (Call r)) at done n) k a (outcome_of (of_production g ks (λ q l from so_far m. whole g ks q l from so_far m) level (Some (Call r)) at [] 0)) refl in
+      (Call r)) at done n) k a (outcome_of (of_production g ks (λ q l from so_far m. whole g ks q l from so_far m) level (Some (Call r)) at [] 0)) refl in
       ⊎_elim (λ s. absurd (o.0 s)) (λ s. o.1 s) (complete_of g ks (Call r) level at a given (suc (most_open g)) [] 0)

@@ -66,8 +66,11 @@ all_marks (q ∷ qs) seen r h inside = ⊎_elim (λ e. all_keeps qs (set_mark se
 all_only : (row : List ℕ) (seen : List Bool) (r : ℕ) → is_marked (mark_all seen row) r ≡ true → (is_marked seen r ≡ true) ⊎ (IsIn r row × (r < length seen))
 all_only [] seen r e = inl e
 all_only (q ∷ qs) seen r e =
-    ⊎_elim (λ m. ⊎_elim (λ a. inl a) (λ a. inr (inl a.0, omega (arith, a.0, a.1))) (set_only seen q r m)) (λ i. inr (inr i.0, omega
-        (arith, i.1, set_length seen q))) (all_only qs (set_mark seen q) r e)
+    ⊎_elim (λ m. ⊎_elim (λ a. inl a) (λ a. inr (inl a.0, omega (arith, a.0, a.1))) (set_only seen q r m)) (λ i. inr (
+      inr i.0,
+      omega
+          (arith, i.1, set_length seen q),
+    )) (all_only qs (set_mark seen q) r e)
 
 row_keeps : (v : Bool) (seen : List Bool) (row : List ℕ) (r : ℕ) → is_marked seen r ≡ true → is_marked (cond v (mark_all seen row) seen) r ≡ true
 row_keeps true seen row r e = all_keeps row seen r e
@@ -93,12 +96,16 @@ sweep_marks (x ∷ rows) i seen zero r row e m h inside =
     let same : x ≡ row = cc in
     let at_i : is_marked seen i ≡ true = subst (λ (n : ℕ). is_marked seen n ≡ true) (add-zero i) m in
     sweep_keeps rows (i + 1) (cond (is_marked seen i) (mark_all seen x) seen) r (rw at_i (all_marks x seen r (subst (λ (l : List ℕ). IsIn r l)
-        (sym same) h) inside))
+    (sym same) h) inside))
 sweep_marks (x ∷ rows) i seen (suc k) r row e m h inside =
     let n : i + suc k ≡ (i + 1) + k = omega arith in
     sweep_marks rows (i + 1) (cond (is_marked seen i) (mark_all seen x) seen) k r row e
-    (row_keeps (is_marked seen i) seen x (i + 1 + k) (subst (λ (j : ℕ). is_marked seen j ≡ true) n m)) h (omega (arith, inside, row_length
-        (is_marked seen i) seen x))
+    (row_keeps (is_marked seen i) seen x (i + 1 + k) (subst (λ (j : ℕ). is_marked seen j ≡ true) n m)) h (omega (
+      arith,
+      inside,
+      row_length
+          (is_marked seen i) seen x,
+    ))
 
 module _ (graph : List (List ℕ)) (p : ℕ) where
   abbrev pub Sound : List Bool → Type 0
@@ -124,7 +131,7 @@ module _ (graph : List (List ℕ)) (p : ℕ) where
   row_sound seen i row e long sound false m q h = sound q h
   row_sound seen i row e long sound true m q h =
       ⊎_elim (λ old. sound q old) (λ new. Path.then i q (sound i m) (subst (λ (o : Option (List ℕ)). IsIn q (places_of o)) (sym e) new.0) (omega
-          (arith, new.1, long))) (all_only row seen q h)
+      (arith, new.1, long))) (all_only row seen q h)
 
   sweep_sound : (rows : List (List ℕ)) (i : ℕ) (seen : List Bool) → ((k : ℕ) → k < length rows → slice_get rows k ≡ slice_get graph (i + k))
       → length seen ≡ length graph → Sound seen → Sound (sweep seen i rows)
@@ -159,8 +166,12 @@ module _ (graph : List (List ℕ)) (p : ℕ) (row : List ℕ) (at_p : slice_get 
   next_row q i = subst (λ (o : Option (List ℕ)). IsIn q (places_of o)) at_p i
 
   pub first_sound : Sound graph p (mark_all (replicate (length graph) false) row)
-  first_sound q m = ⊎_elim (λ old. absurd (none_marked (length graph) q old)) (λ new. Path.first q (row_next q new.0) (omega (arith, new.1, length-replicate
-      (length graph) false))) (all_only row (replicate (length graph) false) q m)
+  first_sound q m = ⊎_elim (λ old. absurd (none_marked (length graph) q old)) (λ new. Path.first q (row_next q new.0) (omega (
+    arith,
+    new.1,
+    length-replicate
+        (length graph) false,
+  ))) (all_only row (replicate (length graph) false) q m)
 
   pub first_started : Started graph p (mark_all (replicate (length graph) false) row)
   first_started q i inside = all_marks row (replicate (length graph) false) q (next_row q i) (omega (arith, inside, length-replicate (length graph) false))

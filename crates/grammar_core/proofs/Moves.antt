@@ -24,8 +24,11 @@ MovedBy E at (Answer.deep x n) = Unit {0}
 MovedBy E at (Answer.spent n) = Unit {0}
 
 moved_then : (E F G : Type 0) (at to x : ℕ) → (E → F → G) → Moved E at to → Moved F to x → Moved G at x
-moved_then E F G at to x both m n = record { goes = omega (arith, m.goes, n.goes); on = ⊎_elim (λ l. inl (omega (arith, l, n.goes))) (λ e. ⊎_elim (λ l. inl
-    (omega (arith, l, m.goes))) (λ f. inr (both e f)) n.on) m.on }
+moved_then E F G at to x both m n = record {
+  goes = omega (arith, m.goes, n.goes);
+  on = ⊎_elim (λ l. inl (omega (arith, l, n.goes))) (λ e. ⊎_elim (λ l. inl
+      (omega (arith, l, m.goes))) (λ f. inr (both e f)) n.on) m.on;
+}
 
 then_moved : (E F G : Type 0) (at : ℕ) (a : Answer) (next : Reading) → (E → F → G) → MovedBy E at a → ((to : ℕ) (more : List ParseTree) (n : ℕ)
     → MovedBy F to (next to more n)) → MovedBy G at (then_at a next)
@@ -71,11 +74,11 @@ module _ (g : Table) (ks : List ℕ) (one : ℕ → ℕ → Reading) (level : �
   again_moved firsts q zero at done n = tt
   again_moved firsts q (suc k) at done n = elim (begins ks at firsts) as (λ v. MovedBy (IsEmptyProd g (Star firsts q)) at (cond v (then_at
       (one q level at done n) (λ to more m. again ks firsts (one q level) k to more (suc m))) (Answer.ends at done n))) [
-    | true ↦ then_moved (MayBeEmpty g q) (IsEmptyProd g (Star firsts q)) (IsEmptyProd g (Star firsts q)) at (one q level at done n)
-        (λ to more m. again ks firsts (one q level) k to more (suc m)) (λ e f. f) (moves q level at done n) (λ to more m. again_moved firsts q k to more
-        (suc m))
-    | false ↦ record { goes = omega arith; on = inr (IsEmptyProd.no_times firsts q) }
-  ]
+        | true ↦ then_moved (MayBeEmpty g q) (IsEmptyProd g (Star firsts q)) (IsEmptyProd g (Star firsts q)) at (one q level at done n)
+            (λ to more m. again ks firsts (one q level) k to more (suc m)) (λ e f. f) (moves q level at done n) (λ to more m. again_moved firsts q k to more
+            (suc m))
+        | false ↦ record { goes = omega arith; on = inr (IsEmptyProd.no_times firsts q) }
+      ]
 
   rule_moved : (r : ℕ) (o : Option Rule) (at : ℕ) (done : List ParseTree) (n : ℕ) → rule_at g r ≡ o
       → MovedBy (IsEmptyProd g (Call r)) at (of_rule one r level o at done n)

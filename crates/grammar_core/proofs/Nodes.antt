@@ -54,10 +54,10 @@ trees_at ts (n ∷ ns) zero x h e =
     let all : trees_from ts (n ∷ ns) ≡ ts ++ (t ∷ m.0) = m.1 ∙ append_assoc ts (t ∷ []) m.0 in
     let z : length ts + 0 ≡ length ts = omega arith in
     let there : slice_get (trees_from ts (n ∷ ns)) (length ts + 0) ≡ Some t = ap (λ (l : List ParseTree). slice_get l (length ts + 0)) all
-        ∙ ap (λ (k : ℕ). slice_get (ts ++ (t ∷ m.0)) k) z ∙ get_at ts t m.0 in
+    ∙ ap (λ (k : ℕ). slice_get (ts ++ (t ∷ m.0)) k) z ∙ get_at ts t m.0 in
     let made : tree_with (trees_from ts (n ∷ ns)) n ≡ t = ap (λ (l : List ParseTree). tree_with l n) all ∙ tree_same ts (t ∷ m.0) n h.0 in
     subst (λ (y : Node). slice_get (trees_from ts (n ∷ ns)) (length ts + 0) ≡ Some (tree_with (trees_from ts (n ∷ ns)) y)) same (there
-        ∙ ap (λ (y : ParseTree). Some y) (sym made))
+    ∙ ap (λ (y : ParseTree). Some y) (sym made))
 trees_at ts (n ∷ ns) (suc i) x h e =
     let t : ParseTree = tree_with ts n in
     let long : length (ts ++ (t ∷ [])) ≡ suc (length ts) = omega (arith, length-append ts (t ∷ [])) in
@@ -86,7 +86,7 @@ node_trees-append ns ms h =
     let ts : List ParseTree = node_trees ns in
     let p : ArePlaced (length ts) ms = subst (λ (k : ℕ). ArePlaced k ms) (sym (length-node_trees ns)) h in
     trees_from-append [] ns ms ∙ ap (λ (l : List ParseTree). trees_from l ms) (sym (append-nil ts)) ∙ trees_flat ts [] ms p ∙ ap (λ (l : List ParseTree). l
-        ++ map (λ n. tree_with ts n) ms) (append-nil ts)
+    ++ map (λ n. tree_with ts n) ms) (append-nil ts)
 
 placed_more : (j k : ℕ) (n : Node) → j ≤ k → IsPlaced j n → IsPlaced k n
 placed_more j k (Token kind at) l h = tt
@@ -138,22 +138,26 @@ built nodes waiting = record { nodes = nodes; waiting = waiting }
 -- the trees from a place on are put below a rule
 pub read_close : (nodes waiting : List Node) (r i : ℕ) → ArePlaced (length nodes) waiting → i ≤ length waiting
     → read_trees (built (nodes ++ drop i waiting) (take i waiting ++ (Rule r (length nodes) (length waiting - i)
-        ∷ []))) ≡ closed r i (read_trees (built nodes waiting))
+    ∷ []))) ≡ closed r i (read_trees (built nodes waiting))
 read_close nodes waiting r i p l =
     let ts : List ParseTree = node_trees nodes in
     let extra : List ParseTree = map (λ n. tree_with ts n) (drop i waiting) in
     let long : length ts ≡ length nodes = length-node_trees nodes in
     let all : node_trees (nodes ++ drop i waiting) ≡ ts ++ extra = node_trees-append nodes (drop i waiting) (ArePlaced-drop (length nodes) i waiting p) in
     let kept : map (λ n. tree_with (ts ++ extra) n) (take i waiting) ≡ take i (map (λ n. tree_with ts n) waiting) = trees_same ts extra (take i waiting) (subst
-        (λ (k : ℕ). ArePlaced k (take i waiting)) (sym long) (ArePlaced-take (length nodes) i waiting p)) ∙ sym (take-map (λ n. tree_with ts n) i waiting) in
+    (λ (k : ℕ). ArePlaced k (take i waiting)) (sym long) (ArePlaced-take (length nodes) i waiting p)) ∙ sym (take-map (λ n. tree_with ts n) i waiting) in
     let e : drop (length nodes) (ts ++ extra) ≡ extra = subst (λ (k : ℕ). drop k (ts ++ extra) ≡ extra) long (drop-append_seam ts extra) in
-    let f : take (length waiting - i) extra ≡ extra = take_all (length waiting - i) extra (omega (arith, length-map (drop i waiting)
-        (λ n. tree_with ts n), length-drop i waiting)) in
+    let f : take (length waiting - i) extra ≡ extra = take_all (length waiting - i) extra (omega (
+      arith,
+      length-map (drop i waiting)
+          (λ n. tree_with ts n),
+      length-drop i waiting,
+    )) in
     let low : take (length waiting - i) (drop (length nodes) (ts ++ extra)) ≡ drop i (map (λ n. tree_with ts n) waiting) = ap (λ (x : List ParseTree). take
-        (length waiting - i) x) e ∙ f ∙ sym (drop-map (λ n. tree_with ts n) i waiting) in
+    (length waiting - i) x) e ∙ f ∙ sym (drop-map (λ n. tree_with ts n) i waiting) in
     map-append (λ n. tree_with (node_trees (nodes ++ drop i waiting)) n) (take i waiting) (Rule r (length nodes) (length waiting - i) ∷ [])
     ∙ ap (λ (all : List ParseTree). map (λ n. tree_with all n) (take i waiting) ++ (node r (row_of (take (length waiting - i) (drop (length nodes) all)))
-        ∷ [])) all
+    ∷ [])) all
     ∙ ap (λ (x : List ParseTree). x ++ (node r (row_of (take (length waiting - i) (drop (length nodes) (ts ++ extra)))) ∷ [])) kept
     ∙ ap (λ (x : List ParseTree). take i (map (λ n. tree_with ts n) waiting) ++ (node r (row_of x) ∷ [])) low
 
@@ -167,7 +171,7 @@ closed_past r start done =
     let a : take (length done) done ≡ take start done = take_all (length done) done (omega arith) ∙ sym (take_all start done l) in
     let b : drop (length done) done ≡ drop start done = drop_all (length done) done (omega arith) ∙ sym (drop_all start done l) in
     ap (λ (k : ℕ). closed r k done) e ∙ ap (λ (x : List ParseTree). x ++ (node r (row_of (drop (length done) done)) ∷ [])) a
-        ∙ ap (λ (x : List ParseTree). take start done ++ (node r (row_of x) ∷ [])) b)
+    ∙ ap (λ (x : List ParseTree). take start done ++ (node r (row_of x) ∷ [])) b)
     (cases_lt start (length done))
 
 -- the trees below a rule's node
@@ -176,7 +180,7 @@ pub below-rule : (ns : List Node) (i r first count : ℕ) → IsArena 0 ns → s
 below-rule ns i r first count h e =
     let t = node_tree ns i (Rule r first count) h e in
     ap (λ (x : ParseTree). below x) (get_or_from_slice_get (node_trees ns) i (tree_with (node_trees ns) (Rule r first count)) (leaf 0 0) t)
-        ∙ trees_of-row_of (take count (drop first (node_trees ns)))
+    ∙ trees_of-row_of (take count (drop first (node_trees ns)))
 
 pub tree_at-node : (ns : List Node) (i : ℕ) (x : Node) → IsArena 0 ns → slice_get ns i ≡ Some x → tree_at ns i ≡ tree_with (node_trees ns) x
 tree_at-node ns i x h e = get_or_from_slice_get (node_trees ns) i (tree_with (node_trees ns) x) (leaf 0 0) (node_tree ns i x h e)
@@ -196,7 +200,7 @@ length-below ns i r first count h e =
     let p = placed_at ns i r first count h e in
     let l : i < length ns = slice_get_within ns i (Rule r first count) e in
     ap (λ (ts : List ParseTree). length ts) (below-rule ns i r first count h e) ∙ length-take-le count (drop first (node_trees ns)) (omega
-        (arith, p, l, length-drop first (node_trees ns), length-node_trees ns))
+    (arith, p, l, length-drop first (node_trees ns), length-node_trees ns))
 
 get_taken : {X : Type 0} (count i : ℕ) (xs : List X) → i < count → slice_get (take count xs) i ≡ slice_get xs i
 get_taken zero i xs l = absurd (omega arith)
@@ -216,4 +220,4 @@ below_at ns n r first count i h e l =
     let w : n < length ns = slice_get_within ns n (Rule r first count) e in
     let in_range : first + i < length (node_trees ns) = omega (arith, p, w, l, length-node_trees ns) in
     ap (λ (ts : List ParseTree). slice_get ts i) (below-rule ns n r first count h e) ∙ get_taken count i (drop first (node_trees ns)) l
-        ∙ get_dropped first i (node_trees ns) ∙ slice_get-get_or (node_trees ns) (first + i) (leaf 0 0) in_range
+    ∙ get_dropped first i (node_trees ns) ∙ slice_get-get_or (node_trees ns) (first + i) (leaf 0 0) in_range

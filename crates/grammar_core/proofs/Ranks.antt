@@ -121,7 +121,7 @@ module _ (g : Table) where
   step_at calls p q i =
       ⊎_elim (λ some. (some.0, some.2, subst (λ (l : List ℕ). IsIn q l) (next_at calls p some.0 some.2) i))
       (λ past. absurd (subst (λ (o : Option (List ℕ)). IsIn q (places_of o)) (slice_get-map (λ y. next_prods calls g y) g.prods p
-          ∙ ap (λ (o : Option Prod). option_map (λ y. next_prods calls g y) o) past.1) i))
+      ∙ ap (λ (o : Option Prod). option_map (λ y. next_prods calls g y) o) past.1) i))
       (slice_get_cases g.prods p).1
 
   unnested_in : (a : Option ℕ) (b : Option Bool) (q : ℕ) → IsIn q (unnested (rule_from a b)) → (a ≡ Some q) × (b ≡ Some false)
@@ -179,17 +179,37 @@ module _ (g : Table) where
       let m = graph_length false in
       ⊎_elim
       (λ early. ⊎_elim (λ part. inl (Path.then q r early part (omega (arith, i, n, m)))) (λ (call : IsCalling q r). inr
-          (record { caller = call.caller; r = call.r; to = call.to; is = call.is; rule = call.rule; flat = call.flat; inside = call.inside; before =
-          leads_joined a q call.caller (inr way) call.before; after = call.after })) (step_split q r s.0 s.1 s.2 (omega (arith, i, n))))
-      (λ (call : IsCalling a q). inr (record { caller = call.caller; r = call.r; to = call.to; is = call.is; rule = call.rule; flat = call.flat; inside =
-          call.inside; before = call.before; after = inr (leads_on call.to q r call.after e i) }))
+      (record {
+        caller = call.caller;
+        r = call.r;
+        to = call.to;
+        is = call.is;
+        rule = call.rule;
+        flat = call.flat;
+        inside = call.inside;
+        before =
+            leads_joined a q call.caller (inr way) call.before;
+        after = call.after;
+      })) (step_split q r s.0 s.1 s.2 (omega (arith, i, n))))
+      (λ (call : IsCalling a q). inr (record {
+        caller = call.caller;
+        r = call.r;
+        to = call.to;
+        is = call.is;
+        rule = call.rule;
+        flat = call.flat;
+        inside =
+            call.inside;
+        before = call.before;
+        after = inr (leads_on call.to q r call.after e i);
+      }))
       (path_split a q way)
 
   -- the call is a step
   call_step : (a b : ℕ) (call : IsCalling a b) → IsIn call.to (next (graph_of true g) call.caller)
   call_step a b call =
       let e : rule_at g call.r ≡ rule_from (Some call.to) (Some false) = ap (λ (o : Option ℕ). rule_from o (slice_get g.nests call.r)) call.rule
-          ∙ ap (λ (o : Option Bool). rule_from (Some call.to) o) call.flat in
+      ∙ ap (λ (o : Option Bool). rule_from (Some call.to) o) call.flat in
       subst (λ (l : List ℕ). IsIn call.to l) (sym (next_at true call.caller (Call call.r) call.is ∙ ap (λ (o : Option Rule). unnested o) e)) (inl refl)
 
   -- where a production comes back to itself, some production is unfit

@@ -98,6 +98,6 @@ module _ (g : Table) (fit : IsFit g) (ks : List ℕ) where
   unfolding whole
   unroll p level at done n inside =
       production_same g ks (λ q l from so_far m. answer g ks (most_open g) q l from so_far m) (λ q l from so_far m. answer g ks (suc
-          (most_open g)) q l from so_far m) p level
+      (most_open g)) q l from so_far m) p level
       (λ q l in_q falls. agree (most_open g) (suc (most_open g)) q l in_q (height_low g q l) (omega (arith, height_low g q l))) (slice_get g.prods p)
-          (fits_at g fit p inside) at done (suc n)
+      (fits_at g fit p inside) at done (suc n)

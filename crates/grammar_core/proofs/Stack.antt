@@ -51,7 +51,7 @@ module _ (g : Table) (ks : List ℕ) where
       by_answer : (a : Answer) → ((to : ℕ) (more : List ParseTree) (m : ℕ) → tasks g ks (ts
           ++ reverse (reads level ps)) to more m ≡ then_at (in_turn (λ q. whole g ks q level) ps to more m) (λ x l i. tasks g ks ts x l i))
           → then_at a (λ to more m. tasks g ks (ts ++ reverse (reads level ps)) to more m) ≡ then_at (then_at a (λ to more m. in_turn
-              (λ q. whole g ks q level) ps to more m)) (λ x l i. tasks g ks ts x l i)
+          (λ q. whole g ks q level) ps to more m)) (λ x l i. tasks g ks ts x l i)
       by_answer (Answer.ends to more m) same = same to more m
       by_answer (Answer.stuck x m) same = refl
       by_answer (Answer.deep x m) same = refl
@@ -96,7 +96,7 @@ module _ (g : Table) (ks : List ℕ) where
     pub tasks-star : (ts : List Task) (p q level : ℕ) (firsts : List ℕ) (at : ℕ) (done : List ParseTree) (n : ℕ) → slice_get g.prods p ≡ Some (Star firsts q)
         → p < length g.prods → (MayBeEmpty g q → ⊥) → begins ks at firsts ≡ true
         → tasks g ks ((ts ++ (Read p level ∷ [])) ++ (Read q level ∷ [])) at done n ≡ then_at (again ks firsts (whole g ks q level) (suc
-            (length ks - at)) at done n) (λ to more m. tasks g ks ts to more m)
+        (length ks - at)) at done n) (λ to more m. tasks g ks ts to more m)
     tasks-star ts p q level firsts at done n is inside never b = tasks-snoc (ts ++ (Read p level ∷ [])) (Read q level) at done n
         ∙ by_answer (whole g ks q level at done n) refl
       where
@@ -105,8 +105,8 @@ module _ (g : Table) (ks : List ℕ) where
         by_answer (Answer.ends to more m) e =
             tasks-snoc ts (Read p level) to more m
             ∙ ap (λ (a : Answer). then_at a (λ x l i. tasks g ks ts x l i)) (unroll g fit ks p level to more m inside
-                ∙ ap (λ (x : Option Prod). of_production g ks (whole g ks) level x to more (suc m)) is
-                ∙ star_more g ks firsts q level never at to done more n m b e)
+            ∙ ap (λ (x : Option Prod). of_production g ks (whole g ks) level x to more (suc m)) is
+            ∙ star_more g ks firsts q level never at to done more n m b e)
         by_answer (Answer.stuck x m) e = rw (b, e) refl
         by_answer (Answer.deep x m) e = rw (b, e) refl
         by_answer (Answer.spent m) e = rw (b, e) refl
@@ -136,25 +136,33 @@ module _ (g : Table) (fit : IsFit g) (ks : List ℕ) (x : Prod) (p level at : �
   pub did_case : (bs : List Branch) (other : Option ℕ) (q : ℕ) → x ≡ Case bs other → branch_of ks at bs other ≡ Some q → new ≡ old ++ (Read q level ∷ []) → Did
   did_case bs other q e b n =
       let f = fits g fit p (Case bs other) (is_as (Case bs other) e) in
-      rw (e, n, b) (tasks-snoc g ks old (Read q level) at done 1, AreTasks-snoc g ks old (Read q level) all (other_inside g p q (branch_of ks at bs other) b
-          (branch_below g ks p at bs other f)))
+      rw (e, n, b) (
+        tasks-snoc g ks old (Read q level) at done 1,
+        AreTasks-snoc g ks old (Read q level) all (other_inside g p q (branch_of ks at bs other) b
+            (branch_below g ks p at bs other f)),
+      )
 
   pub did_star : (firsts : List ℕ) (q : ℕ) → x ≡ Star firsts q → begins ks at firsts ≡ true → new ≡ (old ++ (Read p level ∷ [])) ++ (Read q level ∷ []) → Did
   did_star firsts q e b n =
       let i = is_as (Star firsts q) e in
       let f = fits g fit p (Star firsts q) i in
       let inside = slice_get_within g.prods p (Star firsts q) i in
-      rw (n) (rw e (tasks-star g ks fit old p q level firsts at done 1 i inside f.1 b), AreTasks-snoc g ks (old ++ (Read p level
-          ∷ [])) (Read q level) (AreTasks-snoc g ks old (Read p level) all inside) f.0.inside)
+      rw (n) (
+        rw e (tasks-star g ks fit old p q level firsts at done 1 i inside f.1 b),
+        AreTasks-snoc g ks (old ++ (Read p level
+            ∷ [])) (Read q level) (AreTasks-snoc g ks old (Read p level) all inside) f.0.inside,
+      )
 
   pub did_rule : (r : ℕ) (rule : Rule) (inner : ℕ) → x ≡ Call r → r < length g.rules → rule_at g r ≡ Some rule → level_in rule level ≡ Some inner → new ≡ (old
       ++ (Close r (length done) ∷ [])) ++ (Read rule.to inner ∷ []) → Did
   did_rule r rule inner e h i l n =
       let there = rule_there g fit r h in
       let same : there.0 ≡ rule = let s : Some there.0 ≡ Some rule = sym there.1 ∙ i in cc in
-      let inside : rule.to < length g.prods = subst (λ (z : Rule). z.to < length g.prods) same there.2 in
-      (rw e (did_call g ks old new level at done 1 r rule inner i l n), rw n (AreTasks-snoc g ks (old ++ (Close r (length done)
-          ∷ [])) (Read rule.to inner) (AreTasks-snoc g ks old (Close r (length done)) all tt) inside))
+      let inside : rule.to < length g.prods = subst (λ (z : Rule). z.to < length g.prods) same there.2 in (
+        rw e (did_call g ks old new level at done 1 r rule inner i l n),
+        rw n (AreTasks-snoc g ks (old ++ (Close r (length done)
+            ∷ [])) (Read rule.to inner) (AreTasks-snoc g ks old (Close r (length done)) all tt) inside),
+      )
 
   pub did_not : (r : ℕ) (rule : Rule) → x ≡ Call r → rule_at g r ≡ Some rule → level_in rule level ≡ None
       → of_production g ks (whole g ks) level (Some x) at done 1 ≡ Answer.deep at 1
@@ -187,12 +195,12 @@ taken (Some t) old new next h k = (h, λ e. absurd (cc))
 pub one_step : (g : Table) (ks : List ℕ) (stack rest new : List Task) (t : Task) (at to : ℕ) (done more : List ParseTree) → stack ≡ rest ++ (t ∷ [])
     → tasks g ks new to more 1 ≡ then_at (task g ks t at done 0) (λ x l i. tasks g ks rest x l i)
     → (outcome_of (tasks g ks new to more 0) ≡ outcome_of (tasks g ks stack at done 0)) × (steps_of (tasks g ks new to more 0) < steps_of
-        (tasks g ks stack at done 0))
+    (tasks g ks stack at done 0))
 one_step g ks stack rest new t at to done more s e =
     let all : tasks g ks stack at done 0 ≡ later (tasks g ks new to more 0) = ap (λ (l : List Task). tasks g ks l at done 0) s
-        ∙ tasks-snoc g ks rest t at done 0 ∙ sym e ∙ tasks_shift g ks new to more 0 in
+    ∙ tasks-snoc g ks rest t at done 0 ∙ sym e ∙ tasks_shift g ks new to more 0 in
     let less : steps_of (tasks g ks stack at done 0) ≡ suc (steps_of (tasks g ks new to more 0)) = ap (λ (a : Answer). steps_of a) all
-        ∙ steps_of-later (tasks g ks new to more 0) in
+    ∙ steps_of-later (tasks g ks new to more 0) in
     (sym (ap (λ (a : Answer). outcome_of a) all ∙ outcome_of-later (tasks g ks new to more 0)), omega (arith, less))
 
 -- the first two tasks
@@ -201,12 +209,12 @@ pub started : (g : Table) (fit : IsFit g) (ks : List ℕ) (trees : List ParseTre
     → (outcome_of (tasks g ks stack 0 trees 0) ≡ outcome_of (of_production g ks (whole g ks) 0 (Some (Call r)) 0 [] 0)) × AreTasks g stack
 started g fit ks trees none stack r inner rule t n h i l s =
     let all : stack ≡ ([] ++ (Close r 0 ∷ [])) ++ (Read rule.to inner ∷ []) = s ∙ ap (λ (x : List Task). (x ++ (Close r 0 ∷ [])) ++ (Read rule.to inner
-        ∷ [])) n in
+    ∷ [])) n in
     let there = rule_there g fit r h in
     let same : there.0 ≡ rule = let e : Some there.0 ≡ Some rule = sym there.1 ∙ i in cc in
     let inside : rule.to < length g.prods = subst (λ (z : Rule). z.to < length g.prods) same there.2 in (
       ap (λ (x : List ParseTree). outcome_of (tasks g ks stack 0 x 0)) t
           ∙ ap (λ (a : Answer). outcome_of a) (did_call g ks [] stack 0 0 [] 0 r rule inner i l all
-              ∙ then_none g ks (of_production g ks (whole g ks) 0 (Some (Call r)) 0 [] 0)),
+          ∙ then_none g ks (of_production g ks (whole g ks) 0 (Some (Call r)) 0 [] 0)),
       rw all (tt, (inside, tt)),
     )

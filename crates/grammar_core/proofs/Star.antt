@@ -38,8 +38,8 @@ module _ (ks firsts : List ℕ) (one : Reading) (E : Type 0) (never : E → ⊥)
   enough (suc k) zero at done n a b = absurd (omega arith)
   enough (suc k) (suc m) at done n a b =
       cond_same (begins ks at firsts) _ _ _ (λ e. let inside = begins_inside ks at firsts e
-          in then_enough E never (one at done n) _ _ at (moves at done n) (λ to more i further. enough k m to more (suc i) (omega (arith, inside, further))
-          (omega (arith, inside, further))))
+      in then_enough E never (one at done n) _ _ at (moves at done n) (λ to more i further. enough k m to more (suc i) (omega (arith, inside, further))
+      (omega (arith, inside, further))))
 
   -- one time more
   pub once_more : (at to : ℕ) (done more : List ParseTree) (n i : ℕ) → begins ks at firsts ≡ true → one at done n ≡ Answer.ends to more i

@@ -105,7 +105,7 @@ module _ (g : Table) (p : ℕ) (x : Prod) (is : slice_get g.prods p ≡ Some x) 
     unfit_call (Unfit.own_part way) = absurd (flat way)
     unfit_call (Unfit.own_call r q e f n way) =
         let s : rule_at g r ≡ Some (record { to = q; nests = false }) = ap (λ (o : Option ℕ). rule_from o (slice_get g.nests r)) f
-            ∙ ap (λ (o : Option Bool). rule_from (Some q) o) n in
+        ∙ ap (λ (o : Option Bool). rule_from (Some q) o) n in
         subst (λ (z : Prod). CallComesBack g z) (same_prod (Call r) e) (subst (λ (o : Option Rule). RuleComesBack g o) (sym s) way)
 
     -- the last test decides

@@ -66,10 +66,10 @@ module _ (g : Table) (ks : List ℕ) where
   meaning : (a : Outcome) → IsSingle a → (v : Verdict) × Means (length ks) a v
   meaning (Outcome.ends to trees) s =
       let front = λ (h : to ≢ length ks). let m : Means (length ks) (Outcome.ends to trees) (Verdict.stuck to) = (refl, h) in
-          let r : (v : Verdict) × Means (length ks) (Outcome.ends to trees) v = (Verdict.stuck to, m) in r in
+      let r : (v : Verdict) × Means (length ks) (Outcome.ends to trees) v = (Verdict.stuck to, m) in r in
       ⊎_elim (λ l. front (λ e. omega (arith, l, e)))
       (λ l. ⊎_elim (λ m. front (λ e. omega (arith, m, e))) (λ m. let e : to ≡ length ks = omega (arith, l, m)
-          in (Verdict.derived s.0, (e, s.1))) (cases_lt (length ks) to)) (cases_lt to (length ks))
+      in (Verdict.derived s.0, (e, s.1))) (cases_lt (length ks) to)) (cases_lt to (length ks))
   meaning (Outcome.stuck at) s = (Verdict.stuck at, refl)
   meaning (Outcome.deep at) s = (Verdict.deep at, refl)
 
@@ -119,7 +119,7 @@ module _ (g : Table) (ks : List ℕ) where
     means_computed a e =
         let k = start_known g fit ks r 0 0 inside in
         let s : Some k.0 ≡ Some a = sym (known_at (GivesProd g ks (Call r) 0 0) (λ done n. of_production g ks
-            (λ q l from so_far m. whole g ks q l from so_far m) 0 (Some (Call r)) 0 done n) k 0) ∙ e in
+        (λ q l from so_far m. whole g ks q l from so_far m) 0 (Some (Call r)) 0 done n) k 0) ∙ e in
         let same : k.0 ≡ a = cc in
         subst (λ (x : Outcome). Means (length ks) x verdict.0) same verdict.1
 
@@ -139,9 +139,9 @@ unfolding computed
 computed_holds g ks fit r inside =
     let k = start_known g fit ks r 0 0 inside in
     let e = known_at (GivesProd g ks (Call r) 0 0) (λ done n. of_production g ks (λ q l from so_far m. whole g ks q l from so_far m) 0 (Some
-        (Call r)) 0 done n) k 0 in
+    (Call r)) 0 done n) k 0 in
     let h : Holds g ks r (verdict_of (length ks) (Some k.0)) = means_holds g ks r k.0 (verdict_of (length ks) (Some k.0)) k.1 (single_means (length ks) k.0
-        (call_single g ks r 0 0 k.0 k.1)) in
+    (call_single g ks r 0 0 k.0 k.1)) in
     subst (λ (o : Option Outcome). Holds g ks r (verdict_of (length ks) o)) (sym e) h
 
 -- what the parser answers for an outcome of the start rule
@@ -233,7 +233,7 @@ module _ (g : Table) (ks : List ℕ) (fit : IsFit g) (r : ℕ) (inside : r < len
   some_tree to trees m =
       let k = start_known g fit ks r 0 0 inside in
       let s : Some k.0 ≡ Some (Outcome.ends to trees) = sym (known_at (GivesProd g ks (Call r) 0 0) (λ done n. of_production g ks
-          (λ q l from so_far i. whole g ks q l from so_far i) 0 (Some (Call r)) 0 done n) k 0) ∙ m in
+      (λ q l from so_far i. whole g ks q l from so_far i) 0 (Some (Call r)) 0 done n) k 0) ∙ m in
       let same : k.0 ≡ Outcome.ends to trees = cc in
       let one : IsSingle (Outcome.ends to trees) = subst (λ (a : Outcome). IsSingle a) same (call_single g ks r 0 0 k.0 k.1) in
       let e = ap (λ (l : List ParseTree). length l) one.1 in omega (arith, e)

@@ -57,14 +57,18 @@ fn type_in(
     }
     match TypeNode::of(node) {
         None => named_type(alloc, lexed, outer, node),
-        Some(TypeNode {
-            word,
-            element: None,
-        }) => named_type(alloc, lexed, outer, &word),
-        Some(TypeNode {
-            word,
-            element: Some(element),
-        }) => {
+        Some(
+            TypeNode {
+                word,
+                element: None,
+            },
+        ) => named_type(alloc, lexed, outer, &word),
+        Some(
+            TypeNode {
+                word,
+                element: Some(element),
+            },
+        ) => {
             outer.push(kind_at(&word))?;
             type_in(alloc, lexed, depth - 1, outer, &element)
         }

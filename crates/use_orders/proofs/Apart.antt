@@ -169,5 +169,5 @@ module _ {K : Type 0} {cmp : K → K → Ordering} (o : IsTotalOrder cmp) (exact
       → out ++ apart cmp (drop i a) (drop j b) ≡ whole → done ≡ whole
   rest_apart a b out mid done whole i j up up' first second ends same =
       let rest = left (drop i a) (drop j b) (strict_drop cmp i a (rises o a up)) (strict_drop cmp j b (rises o b up')) (⊎_elim (λ l. inl
-          (drop_of_length-le a l)) (λ l. inr (drop_of_length-le b l)) ends) in
+      (drop_of_length-le a l)) (λ l. inr (drop_of_length-le b l)) ends) in
       second ∙ ap (λ l. l ++ drop j b) first ∙ append_assoc out (drop i a) (drop j b) ∙ ap (λ l. out ++ l) rest ∙ same

@@ -102,9 +102,11 @@ module _ {K : Type 0} (cmp : K → K → Ordering) where
     ascends_from_pairs [] up = tt
     ascends_from_pairs (x ∷ xs) up =
         let head : All (λ y. is_gt (cmp x y) ≡ false) xs = λ j d inside. not_above (cmp x (get_or xs j d)) (sym (ap is_lt (o.antisymm (get_or xs j d) x))
-            ∙ up zero (suc j) d (omega arith) (omega arith)) in
-        (recursion_from_All (λ y. is_gt (cmp x y) ≡ false) xs head, ascends_from_pairs xs (λ i j d below inside. up (suc i) (suc j) d (omega arith)
-            (omega arith)))
+        ∙ up zero (suc j) d (omega arith) (omega arith)) in (
+          recursion_from_All (λ y. is_gt (cmp x y) ≡ false) xs head,
+          ascends_from_pairs xs (λ i j d below inside. up (suc i) (suc j) d (omega arith)
+              (omega arith)),
+        )
 
     pub Ascends-from_sort : (xs : List K) → IsSorted cmp xs → Ascends xs
     Ascends-from_sort xs h = ascends_from_pairs xs (λ i j d below inside. sorted_far _ (ranks_by o (λ a. a)) xs h i j d (omega arith) inside)
@@ -133,8 +135,11 @@ module _ {K : Type 0} (cmp : K → K → Ordering) where
     apart : (x : K) (xs : List K) (y : K) (ys : List K) → cmp x y ≡ Less → AllByRecursion (λ w. is_gt (cmp y w) ≡ false) ys
         → times cmp (x ∷ xs) x ≡ times cmp (y ∷ ys) x → ⊥
     apart x xs y ys l up same =
-        let all : AllByRecursion (λ w. cmp x w ≡ Less) (y ∷ ys) = (l, all_weaker (λ w. is_gt (cmp y w) ≡ false) (λ w. cmp x w ≡ Less) (λ w g. under x y w
-            (cmp y w) refl g l) ys up) in
+        let all : AllByRecursion (λ w. cmp x w ≡ Less) (y ∷ ys) = (
+          l,
+          all_weaker (λ w. is_gt (cmp y w) ≡ false) (λ w. cmp x w ≡ Less) (λ w g. under x y w
+              (cmp y w) refl g l) ys up,
+        ) in
         let none = times_below x (y ∷ ys) all in
         let some = times_self x xs in
         omega (arith, same, none, some)
@@ -184,7 +189,7 @@ module _ {K : Type 0} (cmp : K → K → Ordering) where
     up_pairs (x ∷ xs) up =
         AllPairs-cons (λ a b. is_lt (cmp b a) ≡ false) x xs
         (All-from_recursion (λ y. is_lt (cmp y x) ≡ false) xs (all_weaker (λ y. is_gt (cmp x y) ≡ false) (λ y. is_lt (cmp y x) ≡ false) (λ y g. ap is_lt
-            (o.antisymm y x) ∙ not_under (cmp x y) g) xs up.0))
+        (o.antisymm y x) ∙ not_under (cmp x y) g) xs up.0))
         (up_pairs xs up.1)
 
     pub sorted_up : (xs : List K) → Ascends xs → IsSorted cmp xs

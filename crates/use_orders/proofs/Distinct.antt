@@ -121,8 +121,11 @@ module _ {K : Type 0} (cmp : K → K → Ordering) where
         let parts : (z : K) → has cmp (seen ++ x ∷ []) z ≡ false → (has cmp seen z ≡ false) × (has cmp (x ∷ []) z ≡ false) =
         λ z e. none_of (has cmp seen z) (has cmp (x ∷ []) z) (sym (list_any-append (λ y. is_eq (cmp z y)) seen (x ∷ [])) ∙ e) in (
           (new.0, all_weaker (λ z. has cmp (seen ++ x ∷ []) z ≡ false) (λ z. has cmp seen z ≡ false) (λ z e. (parts z e).0) xs rest.0),
-          (all_weaker (λ z. has cmp (seen ++ x ∷ []) z ≡ false) (Unlike x) (λ z e. turned z x (none_of (is_eq (cmp z x)) false
-              (parts z e).1).0) xs rest.0, rest.1),
+          (
+            all_weaker (λ z. has cmp (seen ++ x ∷ []) z ≡ false) (Unlike x) (λ z e. turned z x (none_of (is_eq (cmp z x)) false
+                (parts z e).1).0) xs rest.0,
+            rest.1,
+          ),
         )
 
     both_new : (seen : List K) (x : K) (xs : List K) → AllByRecursion (λ z. has cmp seen z ≡ false) xs → AllByRecursion (Unlike x) xs

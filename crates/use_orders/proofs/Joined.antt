@@ -41,7 +41,7 @@ module _ {K : Type 0} {cmp : K → K → Ordering} (o : IsTotalOrder cmp) where
       let later = all_weaker (λ w. is_gt (cmp y w) ≡ false) (λ w. is_gt (cmp x w) ≡ false) (λ w g. upto o x y w low g) ys up'.0 in
       first_in x (bag_of cmp (xs ++ y ∷ ys))
       (all_bag cmp (λ w. is_lt (cmp w x) ≡ false) (xs ++ y ∷ ys) (not_lower x (xs ++ y ∷ ys) (both (λ w. is_gt (cmp x w) ≡ false) xs (y
-          ∷ ys) up.0 (low, later))))
+      ∷ ys) up.0 (low, later))))
 
   pass : (y : K) (ys : List K) → Ascends cmp (y ∷ ys) → (xs : List K) → AllByRecursion (λ w. cmp y w ≡ Less) xs
       → bag_of cmp (xs ++ y ∷ ys) ≡ y ∷ bag_of cmp (xs ++ ys)
@@ -72,7 +72,7 @@ module _ {K : Type 0} {cmp : K → K → Ordering} (o : IsTotalOrder cmp) where
     first_joined low push =
         let is : bag_of cmp (drop i a ++ drop j b) ≡ x ∷ bag_of cmp (drop (i + 1) a ++ drop j b) =
         ap₂ (λ l m. bag_of cmp (l ++ m)) open_a open_b ∙ take_first x (drop (i + 1) a) y (drop (j + 1) b) low rises_a rises_b ∙ ap (λ m. x
-            ∷ bag_of cmp (drop (i + 1) a ++ m)) (sym open_b) in
+        ∷ bag_of cmp (drop (i + 1) a ++ m)) (sym open_b) in
         record { same = onto x _ _ push is; further = omega arith; in_a = omega arith; in_b = omega arith }
 
     pub second_joined : is_gt (cmp x y) ≡ true → out' ≡ out ++ y ∷ [] → Progress (λ xs ys. bag_of cmp (xs ++ ys)) a b i j out i (j + 1) out'
@@ -92,5 +92,5 @@ module _ {K : Type 0} {cmp : K → K → Ordering} (o : IsTotalOrder cmp) where
       → (length a ≤ i) ⊎ (length b ≤ j) → out ++ bag_of cmp (drop i a ++ drop j b) ≡ whole → done ≡ whole
   joined a b out mid done whole i j up up' first second ends same =
       let rest = left (drop i a) (drop j b) (Ascends-drop cmp i a (Ascends-from_sort cmp o a up)) (Ascends-drop cmp j b (Ascends-from_sort cmp o b up')) (⊎_elim
-          (λ l. inl (drop_of_length-le a l)) (λ l. inr (drop_of_length-le b l)) ends) in
+      (λ l. inl (drop_of_length-le a l)) (λ l. inr (drop_of_length-le b l)) ends) in
       second ∙ ap (λ l. l ++ drop j b) first ∙ append_assoc out (drop i a) (drop j b) ∙ ap (λ l. out ++ l) rest ∙ same

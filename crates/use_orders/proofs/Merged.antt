@@ -67,12 +67,24 @@ module _ {K : Type 0} {cmp : K → K → Ordering} (o : IsTotalOrder cmp) where
   rises_step x xs up go (y ∷ ys) h =
       match_all (IsStrictlySortedBy cmp) (cmp x y) (x ∷ sorted_merge cmp true xs (y ∷ ys)) (x ∷ sorted_merge cmp true xs ys)
       (y ∷ sorted_merge cmp true (x ∷ xs) ys)
-      (λ e. (all_merged (λ w. cmp x w ≡ Less) xs (y ∷ ys) up.0 (e, all_weaker (λ w. cmp y w ≡ Less) (λ w. cmp x w ≡ Less) (λ w l. o.trans x y w e l) ys h.0), go
-          (y ∷ ys) h))
-      (λ e. (all_merged (λ w. cmp x w ≡ Less) xs ys up.0 (all_weaker (λ w. cmp y w ≡ Less) (λ w. cmp x w ≡ Less) (λ w l. o.congr x y w e
-          ∙ l) ys h.0), go ys h.1))
-      (λ e. (all_merged (λ w. cmp y w ≡ Less) (x ∷ xs) ys (over o x y e, all_weaker (λ w. cmp x w ≡ Less) (λ w. cmp y w ≡ Less) (λ w l. o.trans y x w
-          (over o x y e) l) xs up.0) h.0, rises_step x xs up go ys h.1))
+      (λ e. (
+        all_merged (λ w. cmp x w ≡ Less) xs (y ∷ ys) up.0 (e, all_weaker (λ w. cmp y w ≡ Less) (λ w. cmp x w ≡ Less) (λ w l. o.trans x y w e l) ys h.0),
+        go
+            (y ∷ ys) h,
+      ))
+      (λ e. (
+        all_merged (λ w. cmp x w ≡ Less) xs ys up.0 (all_weaker (λ w. cmp y w ≡ Less) (λ w. cmp x w ≡ Less) (λ w l. o.congr x y w e
+            ∙ l) ys h.0),
+        go ys h.1,
+      ))
+      (λ e. (
+        all_merged (λ w. cmp y w ≡ Less) (x ∷ xs) ys (
+          over o x y e,
+          all_weaker (λ w. cmp x w ≡ Less) (λ w. cmp y w ≡ Less) (λ w l. o.trans y x w
+              (over o x y e) l) xs up.0,
+        ) h.0,
+        rises_step x xs up go ys h.1,
+      ))
 
   pub rises_merged : (xs ys : List K) → IsStrictlySortedBy cmp xs → IsStrictlySortedBy cmp ys → IsStrictlySortedBy cmp (sorted_merge cmp true xs ys)
   unfolding IsStrictlySortedBy
@@ -88,7 +100,7 @@ module _ {K : Type 0} {cmp : K → K → Ordering} (o : IsTotalOrder cmp) where
       (x ∷ sorted_merge cmp true xs ys) (y ∷ sorted_merge cmp true (x ∷ xs) ys)
       (λ _. ap (λ b. is_eq (cmp z x) || b) (go (y ∷ ys)) ∙ sym (or_assoc (is_eq (cmp z x)) (has cmp xs z) (has cmp (y ∷ ys) z)))
       (λ e. ap (λ b. is_eq (cmp z x) || b) (go ys) ∙ or_twice (is_eq (cmp z x)) (has cmp xs z) (has cmp ys z) ∙ ap (λ r. (is_eq (cmp z x) || has cmp xs z)
-          || (is_eq r || has cmp ys z)) (alike_right o x y z e))
+      || (is_eq r || has cmp ys z)) (alike_right o x y z e))
       (λ _. ap (λ b. is_eq (cmp z y) || b) (union_step x xs z go ys) ∙ swap_or (is_eq (cmp z y)) (has cmp (x ∷ xs) z) (has cmp ys z))
 
   has_union : (xs ys : List K) (z : K) → has cmp (sorted_merge cmp true xs ys) z ≡ (has cmp xs z || has cmp ys z)

@@ -47,16 +47,20 @@ module _ {K : Type 0} {cmp : K → K → Ordering} (o : IsTotalOrder cmp) where
   -- x is not above y, and what is behind y is not below it
   none_lower : (x y : K) (ys : List K) → is_lt (cmp y x) ≡ false → AllByRecursion (λ w. is_gt (cmp y w) ≡ false) ys
       → AllByRecursion (λ w. is_lt (cmp w x) ≡ false) (y ∷ ys)
-  none_lower x y ys l up =
-      (l, all_weaker (λ w. is_gt (cmp y w) ≡ false) (λ w. is_lt (cmp w x) ≡ false) (λ w g. ap is_lt (o.antisymm w x)
-          ∙ not_under (cmp x w) (upto o x y w (ap is_gt (o.antisymm x y) ∙ lt_down (cmp y x) l) g)) ys up)
+  none_lower x y ys l up = (
+    l,
+    all_weaker (λ w. is_gt (cmp y w) ≡ false) (λ w. is_lt (cmp w x) ≡ false) (λ w g. ap is_lt (o.antisymm w x)
+        ∙ not_under (cmp x w) (upto o x y w (ap is_gt (o.antisymm x y) ∙ lt_down (cmp y x) l) g)) ys up,
+  )
 
   none_upper : (x y : K) (ys : List K) → cmp y x ≡ Greater → AllByRecursion (λ w. is_gt (cmp y w) ≡ false) ys
       → AllByRecursion (λ w. is_le (cmp w x) ≡ false) (y ∷ ys)
   none_upper x y ys e up =
-      let l : cmp x y ≡ Less = o.antisymm x y ∙ ap ordering_reverse e in
-      (ap is_le e, all_weaker (λ w. is_gt (cmp y w) ≡ false) (λ w. is_le (cmp w x) ≡ false) (λ w g. ap is_le (o.antisymm w x
-          ∙ ap ordering_reverse (under cmp o x y w (cmp y w) refl g l))) ys up)
+      let l : cmp x y ≡ Less = o.antisymm x y ∙ ap ordering_reverse e in (
+        ap is_le e,
+        all_weaker (λ w. is_gt (cmp y w) ≡ false) (λ w. is_le (cmp w x) ≡ false) (λ w g. ap is_le (o.antisymm w x
+            ∙ ap ordering_reverse (under cmp o x y w (cmp y w) refl g l))) ys up,
+      )
 
   insert_low : (xs : List K) (x : K) → Ascends cmp xs → put xs (lower xs x) x ≡ insert_in cmp xs x
   unfolding Ascends
@@ -91,7 +95,7 @@ module _ {K : Type 0} {cmp : K → K → Ordering} (o : IsTotalOrder cmp) where
   insert_gap (y ∷ ys) x zero l front behind =
       sym
       (ap (λ r. match_ordering r (x ∷ y ∷ ys) (y ∷ ys) (y ∷ insert_new cmp ys x)) (o.antisymm x y
-          ∙ ap ordering_reverse (behind zero x (omega arith) (omega arith))))
+      ∙ ap ordering_reverse (behind zero x (omega arith) (omega arith))))
   insert_gap (y ∷ ys) x (suc n) l front behind =
       ap (λ l. y ∷ l) (insert_gap ys x n (omega arith) (λ k d h. front (suc k) d (omega arith)) (λ k d a b. behind (suc k) d (omega arith) (omega arith)))
       ∙ sym (ap (λ r. match_ordering r (x ∷ y ∷ ys) (y ∷ ys) (y ∷ insert_new cmp ys x)) (o.antisymm x y ∙ ap ordering_reverse (front zero x (omega arith))))
@@ -123,7 +127,7 @@ module _ {K : Type 0} {cmp : K → K → Ordering} (o : IsTotalOrder cmp) where
   take_out (y ∷ ys) x up =
       by_rank (take (lower (y ∷ ys) x) (y ∷ ys) ++ drop (upper (y ∷ ys) x) (y ∷ ys) ≡ others (y ∷ ys) x) (cmp y x)
       (λ e. ap₂ (λ n m. take n (y ∷ ys) ++ drop m (y ∷ ys)) (one_more (λ w. is_lt (cmp w x)) y ys (ap is_lt e)) (one_more (λ w. is_le (cmp w x)) y ys
-          (ap is_le e))
+      (ap is_le e))
       ∙ ap (λ l. y ∷ l) (take_out ys x up.1) ∙ sym (ap (λ r. cond (not (is_eq r || false)) (y ∷ others ys x) (others ys x)) e))
       (λ e.
       let none = none_lower x y ys (ap is_lt e) up.0 in

@@ -63,14 +63,14 @@ module _ {K : Type 0} {cmp : K → K → Ordering} (o : IsTotalOrder cmp) where
       (x ∷ y ∷ ys) (y ∷ ys) (y ∷ insert_key (λ a b. cmp a.now b.now) ys x)
       (λ _. refl)
       (λ e. sym (ap (λ r. is_eq r || (is_eq (cmp z y.now) || list_any (λ w. is_eq (cmp z w.now)) ys)) (alike_right o x.now y.now z e)
-          ∙ once_or (is_eq (cmp z y.now)) (list_any (λ w. is_eq (cmp z w.now)) ys)))
+      ∙ once_or (is_eq (cmp z y.now)) (list_any (λ w. is_eq (cmp z w.now)) ys)))
       (λ _. ap (λ b. is_eq (cmp z y.now) || b) (seen_more ys x z) ∙ swap_or (is_eq (cmp z y.now)) (is_eq (cmp z x.now)) (list_any (λ w. is_eq
-          (cmp z w.now)) ys))
+      (cmp z w.now)) ys))
 
   pub marked_more : (xs : List K) (i : ℕ) (keys keys' : List (Bor K)) (x : Bor K) → i < length xs → x.now ≡ get_or xs i x.now
       → keys' ≡ insert_key (λ a b. cmp a.now b.now) keys x
       → ((z : K) → list_any (λ y. is_eq (cmp z y.now)) keys ≡ has cmp (take i xs) z) → (z : K)
-          → list_any (λ y. is_eq (cmp z y.now)) keys' ≡ has cmp (take (i + 1) xs) z
+      → list_any (λ y. is_eq (cmp z y.now)) keys' ≡ has cmp (take (i + 1) xs) z
   marked_more xs i keys keys' x l at is same z =
       ap (list_any (λ y. is_eq (cmp z y.now))) is ∙ seen_more keys x z ∙ ap (λ b. is_eq (cmp z x.now) || b) (same z)
       ∙ or_swap (is_eq (cmp z x.now)) (has cmp (take i xs) z)
@@ -81,7 +81,7 @@ module _ {K : Type 0} {cmp : K → K → Ordering} (o : IsTotalOrder cmp) where
   pub places_more : (xs : List K) (i : ℕ) (ps ps' : List Bool) (b : Bool) (x : K) → i < length xs → length ps ≡ i → ps' ≡ ps ++ b ∷ [] → x ≡ get_or xs i x
       → b ≡ is_first cmp xs i x
       → ((k : ℕ) (d : K) → k < i → get_or ps k true ≡ is_first cmp xs k (get_or xs k d)) → (k : ℕ) (d : K) → k < i + 1
-          → get_or ps' k true ≡ is_first cmp xs k (get_or xs k d)
+      → get_or ps' k true ≡ is_first cmp xs k (get_or xs k d)
   places_more xs i ps ps' b x l len is at first before k d within =
       ⊎_elim
       (λ low. ap (λ l. get_or l k true) is ∙ get_or_append_left ps (b ∷ []) true k (omega arith) ∙ before k d low)
@@ -102,7 +102,7 @@ module _ {K : Type 0} {cmp : K → K → Ordering} (o : IsTotalOrder cmp) where
   pub kept_more : (xs ys left rest : List K) (x : K) (i : ℕ) (ps : List Bool) (b : Bool) (out out' : List K) → xs ≡ ys ++ left → left ≡ x ∷ rest → i ≡ length ys
       → length ps ≡ length xs
       → ((k : ℕ) (d : K) → k < length xs → get_or ps k true ≡ is_first cmp xs k (get_or xs k d)) → b ≡ get_or ps i b → out ≡ firsts_of cmp ys
-          → out' ≡ cond b (out ++ x ∷ []) out → out' ≡ firsts_of cmp (ys ++ x ∷ [])
+      → out' ≡ cond b (out ++ x ∷ []) out → out' ≡ firsts_of cmp (ys ++ x ∷ [])
   kept_more xs ys left rest x i ps b out out' whole next at len places read before after =
       let all : xs ≡ ys ++ x ∷ rest = whole ∙ ap (λ l. ys ++ l) next in
       let within : i < length xs =
@@ -111,7 +111,7 @@ module _ {K : Type 0} {cmp : K → K → Ordering} (o : IsTotalOrder cmp) where
       omega (arith, n, m, at) in
       let fits : i < length ps = omega (arith, within, len) in
       let is : b ≡ not (has cmp (firsts_of cmp ys) x) = read ∙ get_or_default ps i b true fits ∙ places i x within
-          ∙ ap (λ v. is_first cmp xs i v) (read_is xs ys rest x x i all at) ∙ first_is xs ys rest x i all at in
+      ∙ ap (λ v. is_first cmp xs i v) (read_is xs ys rest x x i all at) ∙ first_is xs ys rest x i all at in
       after ∙ ap (λ c. cond c (out ++ x ∷ []) out) is ∙ ap (λ l. cond (not (has cmp (firsts_of cmp ys) x)) (l ++ x ∷ []) l) before
       ∙ sym (not_cond (has cmp (firsts_of cmp ys) x) (firsts_of cmp ys) (firsts_of cmp ys ++ x ∷ [])) ∙ sym (fold_push (add_new cmp) [] ys x)
 

@@ -75,5 +75,5 @@ module _ {K : Type 0} {cmp : K → K → Ordering} (o : IsTotalOrder cmp) where
       let eq = times-cons cmp y ys x in
       let rest = ties_between ys x in
       let one : one_if (is_le (cmp y x)) ≡ one_if (is_lt (cmp y x)) + one_if (is_eq (cmp x y)) = sides (cmp y x)
-          ∙ ap (λ r. one_if (is_lt (cmp y x)) + one_if (is_eq r)) (sym (o.antisymm x y)) in
+      ∙ ap (λ r. one_if (is_lt (cmp y x)) + one_if (is_eq r)) (sym (o.antisymm x y)) in
       omega (arith, le, lt, eq, rest, one)

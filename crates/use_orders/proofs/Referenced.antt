@@ -20,7 +20,7 @@ module _ {K : Type 0} (cmp : K → K → Ordering) where
   differ_prefix (x ∷ xs) ys e =
       ⊎_elim
       (λ there. ap (λ b. not b && all_differ cmp (xs ++ ys)) (list_any-append (λ y. is_eq (cmp x y)) xs ys ∙ ap (λ b. b
-          || has cmp ys x) (was_there (has cmp xs x) there)))
+      || has cmp ys x) (was_there (has cmp xs x) there)))
       (λ tied. and_right (not (has cmp (xs ++ ys) x)) (all_differ cmp (xs ++ ys)) (differ_prefix xs ys tied))
       (and_cases (not (has cmp xs x)) (all_differ cmp xs) e)
 

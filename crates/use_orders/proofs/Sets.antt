@@ -117,7 +117,7 @@ module _ {K : Type 0} {cmp : K → K → Ordering} (o : IsTotalOrder cmp) where
     has-dedup_from k (x ∷ xs) z =
         cond_both (E x k) (dedup_from E k xs) (k ∷ dedup_from E x xs) (λ l. has cmp l z ≡ has cmp (k ∷ x ∷ xs) z)
         (λ e. has-dedup_from k xs z ∙ sym (ap (λ r. is_eq (cmp z k) || (is_eq r || has cmp xs z)) (alike_right o x k z (equal (cmp x k) (sym (ties x k) ∙ e)))
-            ∙ once_or (is_eq (cmp z k)) (has cmp xs z)))
+        ∙ once_or (is_eq (cmp z k)) (has cmp xs z)))
         (λ _. ap (λ b. is_eq (cmp z k) || b) (has-dedup_from x xs z))
 
     has-dedup : (xs : List K) (z : K) → has cmp (dedup E xs) z ≡ has cmp xs z

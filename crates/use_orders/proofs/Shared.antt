@@ -72,13 +72,13 @@ module _ {K : Type 0} (cmp : K → K → Ordering) where
       pub first_passed : cmp x y ≡ Less → Progress (common_of cmp) a b i j out (i + 1) j out
       first_passed l =
           let is = ap₂ (common_of cmp) open_a open_b ∙ pass_first x (drop (i + 1) a) y (drop (j + 1) b) l rises_b
-              ∙ ap (common_of cmp (drop (i + 1) a)) (sym open_b) in
+          ∙ ap (common_of cmp (drop (i + 1) a)) (sym open_b) in
           record { same = ap (λ l. out ++ l) (sym is); further = omega arith; in_a = omega arith; in_b = omega arith }
 
       pub second_passed : cmp x y ≡ Greater → Progress (common_of cmp) a b i j out i (j + 1) out
       second_passed g =
           let is = ap₂ (common_of cmp) open_a open_b ∙ pass_second x (drop (i + 1) a) y (drop (j + 1) b) g rises_a
-              ∙ ap (λ l. common_of cmp l (drop (j + 1) b)) (sym open_a) in
+          ∙ ap (λ l. common_of cmp l (drop (j + 1) b)) (sym open_a) in
           record { same = ap (λ l. out ++ l) (sym is); further = omega arith; in_a = omega arith; in_b = omega arith }
 
       pub both_taken : cmp x y ≡ Equal → (out' : List K) → out' ≡ out ++ x ∷ [] → Progress (common_of cmp) a b i j out (i + 1) (j + 1) out'

@@ -118,7 +118,7 @@ module _ {K : Type 0} {cmp : K → K → Ordering} (o : IsTotalOrder cmp) (exact
       let here : x ≡ y → AllByRecursion (λ z. has cmp (flat (y ∷ ys)) z ≡ true) (f x) =
       λ is. subst (λ v. AllByRecursion (λ z. has cmp (flat (y ∷ ys)) z ≡ true) (f v)) (sym is)
       (all_weaker (λ z. has cmp (f y) z ≡ true) (λ z. has cmp (flat (y ∷ ys)) z ≡ true) (λ z t. has_more y ys z ∙ ap (λ b. b
-          || has cmp (flat ys) z) t) (f y) (own (f y))) in
+      || has cmp (flat ys) z) t) (f y) (own (f y))) in
       let later : has cmp ys x ≡ true → AllByRecursion (λ z. has cmp (flat (y ∷ ys)) z ≡ true) (f x) =
       λ t. all_weaker (λ z. has cmp (flat ys) z ≡ true) (λ z. has cmp (flat (y ∷ ys)) z ≡ true)
       (λ z u. has_more y ys z ∙ ap (λ b. has cmp (f y) z || b) u ∙ or-true (has cmp (f y) z)) (f x) (covered ys x t) in
@@ -137,7 +137,7 @@ module _ {K : Type 0} {cmp : K → K → Ordering} (o : IsTotalOrder cmp) (exact
       cond_both (has cmp seen x) seen (seen ++ x ∷ []) (λ l. firsts_of cmp (flat l) ≡ fold (add_new cmp) (firsts_of cmp (flat seen)) (f x))
       (λ t. sym (all_there (firsts_of cmp (flat seen)) (f x)
       (all_weaker (λ z. has cmp (flat seen) z ≡ true) (λ z. has cmp (firsts_of cmp (flat seen)) z ≡ true) (λ z u. has-firsts_of o (flat seen) z
-          ∙ u) (f x) (covered seen x t))))
+      ∙ u) (f x) (covered seen x t))))
       (λ _. ap (firsts_of cmp) (flat_end seen x) ∙ fold-append (add_new cmp) [] (flat seen) (f x))
 
   onto : (seen xs : List K) → firsts_of cmp (flat (fold (add_new cmp) seen xs)) ≡ fold (add_new cmp) (firsts_of cmp (flat seen)) (flat xs)

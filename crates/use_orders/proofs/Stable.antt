@@ -56,8 +56,11 @@ module _ {K : Type 0} {cmp : K → K → Ordering} (o : IsTotalOrder cmp) where
   apart : (x : K) (xs : List K) (y : K) (ys : List K) → cmp x y ≡ Less → AllByRecursion (λ w. is_gt (cmp y w) ≡ false) ys → alike x (x ∷ xs) ≡ alike x (y ∷ ys)
       → ⊥
   apart x xs y ys l up same =
-      let all : AllByRecursion (λ w. cmp x w ≡ Less) (y ∷ ys) = (l, all_weaker (λ w. is_gt (cmp y w) ≡ false) (λ w. cmp x w ≡ Less) (λ w g. under cmp o x y w
-          (cmp y w) refl g l) ys up) in
+      let all : AllByRecursion (λ w. cmp x w ≡ Less) (y ∷ ys) = (
+        l,
+        all_weaker (λ w. is_gt (cmp y w) ≡ false) (λ w. cmp x w ≡ Less) (λ w g. under cmp o x y w
+            (cmp y w) refl g l) ys up,
+      ) in
       true≢false (sym (ap is_empty (sym (own_alike x xs) ∙ same ∙ none_alike x (y ∷ ys) all)))
 
   pub same_stable : (xs ys : List K) → Ascends cmp xs → Ascends cmp ys → ((z : K) → alike z xs ≡ alike z ys) → xs ≡ ys
@@ -71,7 +74,7 @@ module _ {K : Type 0} {cmp : K → K → Ordering} (o : IsTotalOrder cmp) where
       (λ is. ap₂ (λ v vs. v ∷ vs)
       (ap (λ l. head_or l x) (sym (own_alike x xs) ∙ same x ∙ ap (λ r. cond (is_eq r) (y ∷ alike x ys) (alike x ys)) is))
       (same_stable xs ys up.1 up'.1 (λ z. cancel (is_eq (cmp z x)) (is_eq (cmp z y)) x y (alike z xs) (alike z ys) (ap is_eq (alike_right o x y z is))
-          (same z))))
+      (same z))))
       (λ is. absurd (apart y ys x xs (turned cmp o x y is) up.0 (sym (same y))))
 
   alike-insert_in : (ys : List K) (x z : K) → alike z (insert_in cmp ys x) ≡ cond (is_eq (cmp z x)) (x ∷ alike z ys) (alike z ys)
@@ -91,7 +94,7 @@ module _ {K : Type 0} {cmp : K → K → Ordering} (o : IsTotalOrder cmp) where
   pub stable_from_sort : (xs ys : List K) → IsSorted cmp ys → IsStable cmp xs ys → ys ≡ bag_of cmp xs
   stable_from_sort xs ys up stable =
       let test : (z y : K) → ties (λ a b. is_lt (cmp a b)) z y ≡ is_eq (cmp z y) = λ z y. ap (λ r. not (is_lt (cmp z y)) && not (is_lt r)) (o.antisymm y z)
-          ∙ tie_test (cmp z y) in
+      ∙ tie_test (cmp z y) in
       same_stable ys (bag_of cmp xs) (Ascends-from_sort cmp o ys up) (Ascends-bag_of cmp o xs)
       (λ z. sym (filter_agree (ties (λ a b. is_lt (cmp a b)) z) (λ y. is_eq (cmp z y)) (test z) ys) ∙ stable z
-          ∙ filter_agree (ties (λ a b. is_lt (cmp a b)) z) (λ y. is_eq (cmp z y)) (test z) xs ∙ sym (alike-bag_of xs z))
+      ∙ filter_agree (ties (λ a b. is_lt (cmp a b)) z) (λ y. is_eq (cmp z y)) (test z) xs ∙ sym (alike-bag_of xs z))

@@ -68,10 +68,13 @@ module _ {K : Type 0} (cmp : K → K → Ordering) where
       (λ e.
       let short = no_longer seen xs in
       let whole : length (fold (add_new cmp) seen xs) ≡ length seen + length (x ∷ xs) = ap length (sym (ap (λ b. fold (add_new cmp) (cond b seen (seen ++ x
-          ∷ [])) xs) e) ∙ same) ∙ length-append seen (x ∷ xs) in
+      ∷ [])) xs) e) ∙ same) ∙ length-append seen (x ∷ xs) in
       absurd (omega (arith, short, whole)))
-      (λ e. (e, new_kept (seen ++ x ∷ []) xs (sym (ap (λ b. fold (add_new cmp) (cond b seen (seen ++ x ∷ [])) xs) e) ∙ same ∙ sym (append_assoc seen (x
-          ∷ []) xs))))
+      (λ e. (
+        e,
+        new_kept (seen ++ x ∷ []) xs (sym (ap (λ b. fold (add_new cmp) (cond b seen (seen ++ x ∷ [])) xs) e) ∙ same ∙ sym (append_assoc seen (x
+            ∷ []) xs)),
+      ))
 
   new_filter : (p : K → Bool) (seen fewer xs : List K) → ((z : K) → has cmp seen z ≡ false → has cmp fewer z ≡ false) → AreNew seen xs
       → AreNew fewer (filter p xs)
@@ -79,10 +82,13 @@ module _ {K : Type 0} (cmp : K → K → Ordering) where
   new_filter p seen fewer [] sub new = tt
   new_filter p seen fewer (x ∷ xs) sub new =
       let parts : (z : K) → has cmp (seen ++ x ∷ []) z ≡ false → (has cmp seen z ≡ false) × (has cmp (x
-          ∷ []) z ≡ false) = λ z e. none_of (has cmp seen z) (has cmp (x ∷ []) z) (sym (list_any-append (λ y. is_eq (cmp z y)) seen (x ∷ [])) ∙ e) in
+      ∷ []) z ≡ false) = λ z e. none_of (has cmp seen z) (has cmp (x ∷ []) z) (sym (list_any-append (λ y. is_eq (cmp z y)) seen (x ∷ [])) ∙ e) in
       cond_both (p x) (x ∷ filter p xs) (filter p xs) (AreNew fewer)
-      (λ _. (sub x new.0, new_filter p (seen ++ x ∷ []) (fewer ++ x ∷ []) xs (λ z e. list_any-append (λ y. is_eq (cmp z y)) fewer (x ∷ []) ∙ ap₂ (λ a b. a
-          || b) (sub z (parts z e).0) (parts z e).1) new.1))
+      (λ _. (
+        sub x new.0,
+        new_filter p (seen ++ x ∷ []) (fewer ++ x ∷ []) xs (λ z e. list_any-append (λ y. is_eq (cmp z y)) fewer (x ∷ []) ∙ ap₂ (λ a b. a
+            || b) (sub z (parts z e).0) (parts z e).1) new.1,
+      ))
       (λ _. new_filter p (seen ++ x ∷ []) fewer xs (λ z e. sub z (parts z e).0) new.1)
 
   -- some elements of a list without repeats

@@ -39,9 +39,9 @@ over_ending stays limit front rest le over =
     let near = (stays front (take (limit - length front) rest)).0 in
     let far = (stays front rest).1 in
     let within : play_within limit (front ++ rest) ≡ play start (ended front) = ap (play start) (ap ended (take_within limit front rest le) ∙ near.1)
-        ∙ play_over start (ended front) near.0 over in
+    ∙ play_over start (ended front) near.0 over in
     let short : is_too_long limit (front ++ rest) ≡ false = not_over (nat_lt limit (length (front ++ rest))) (play_within limit (front
-        ++ rest)).over (ap (λ p. p.over) within ∙ over) in
+    ++ rest)).over (ap (λ p. p.over) within ∙ over) in
     let whole : play start (cuts (front ++ rest)) ≡ play start (ended front) = ap (play start) far.1 ∙ play_over start (ended front) far.0 over in
     ap (by_length limit (front ++ rest)) short ∙ ap (λ p. ending p.bytes Done) whole
   where

@@ -32,8 +32,13 @@ appends_rest a b c bytes m n h k = appends_more a b c bytes m n h (rw (take_rest
 
 -- a fault leaves a front
 pub front_kept : (a b c : Option (List ℕ)) (bytes : List ℕ) (at : ℕ) → Appends a b (take at bytes) → Keeps b c → AppendsFront a c bytes
-front_kept a b c bytes at h k = record { front = take at bytes; rest = drop at bytes; whole = sym (take-append-drop at bytes); written = appends_kept a b c
-    (take at bytes) h k }
+front_kept a b c bytes at h k = record {
+  front = take at bytes;
+  rest = drop at bytes;
+  whole = sym (take-append-drop at bytes);
+  written = appends_kept a b c
+      (take at bytes) h k;
+}
 
 -- bytes, and then a front
 pub front_after : (a b c : Option (List ℕ)) (xs ys : List ℕ) → Appends a b xs → AppendsFront b c ys → AppendsFront a c (xs ++ ys)

@@ -19,7 +19,7 @@ play_over m (x ∷ xs) ys h = by_turn (play_over (step m x).machine xs ys) (ends
   where
     by_turn : ((play (step m x).machine xs).over ≡ true → play (step m x).machine (xs ++ ys) ≡ play (step m x).machine xs)
         → (t : Bool) → (behind t (step m x).machine xs).over ≡ true → after (step m x).bytes (behind t (step m x).machine (xs
-            ++ ys)) ≡ after (step m x).bytes (behind t (step m x).machine xs)
+        ++ ys)) ≡ after (step m x).bytes (behind t (step m x).machine xs)
     by_turn more true h = refl
     by_turn more false h = ap (after (step m x).bytes) (more h)
 
@@ -35,7 +35,7 @@ play_on m (x ∷ xs) ys h = by_turn (play_on (step m x).machine xs ys) (ends_run
         (step m x).machine xs).machine ys))
         → (t : Bool) → (behind t (step m x).machine xs).over ≡ false
         → after (step m x).bytes (behind t (step m x).machine (xs ++ ys)) ≡ after ((step m x).bytes
-            ++ (behind t (step m x).machine xs).bytes) (play (behind t (step m x).machine xs).machine ys)
+        ++ (behind t (step m x).machine xs).bytes) (play (behind t (step m x).machine xs).machine ys)
     by_turn more true h = absurd (cc)
     by_turn more false h = ap (after (step m x).bytes) (more h) ∙ after_after (step m x).bytes (play (step m x).machine xs).bytes (play (play
         (step m x).machine xs).machine ys)

@@ -24,7 +24,7 @@ done_whole limit (Some input) None old new w = absurd w.from
 done_whole limit (Some input) (Some ys) old new w =
     let all : w.taken ≡ input = sym (w.from ∙ ap (λ l. w.taken ++ l) w.end ∙ append-nil w.taken) in
     let is : ending (play start (cuts w.taken)).bytes Done ≡ of_input_within limit input = sym (whole_ending limit w.taken w.within)
-        ∙ ap (of_input_within limit) all in
+    ∙ ap (of_input_within limit) all in
     subst (λ e. EndsWith e Done old new) is (record { same = refl; written = w.written })
 
 done_ended : StaysEnded → (limit : ℕ) (left now old new : Option (List ℕ)) → IsEnded limit left now old new → Run limit left old new (Ok Done)
@@ -33,7 +33,7 @@ done_ended stays limit (Some input) None old new w = absurd w.taken
 done_ended stays limit (Some input) (Some ys) old new w =
     let all : (w.before ++ w.front) ++ (w.rest ++ ys) ≡ input = sym (w.taken ∙ regroup w.before w.front w.rest ys) in
     let is : ending (play start (ended (w.before ++ w.front))).bytes Done ≡ of_input_within limit input = sym (over_ending stays limit (w.before
-        ++ w.front) (w.rest ++ ys) w.within w.over) ∙ ap (of_input_within limit) all in
+    ++ w.front) (w.rest ++ ys) w.within w.over) ∙ ap (of_input_within limit) all in
     subst (λ e. EndsWith e Done old new) is (record { same = refl; written = w.written })
   where
     regroup : (w x y z : List ℕ) → (w ++ (x ++ y)) ++ z ≡ (w ++ x) ++ (y ++ z)
@@ -47,7 +47,7 @@ past_run limit (Some input) (Some ys) old new w =
     let long : limit < length (w.taken ++ ys) = omega (arith, w.past, length-append w.taken ys) in
     let goes : (play_within limit (w.taken ++ ys)).over ≡ false = ap (λ p. p.over) more ∙ w.goes_on in
     let is : ending (play_within limit w.taken).bytes TooLong ≡ of_input_within limit input = ap (λ p. ending p.bytes TooLong) (sym more)
-        ∙ sym (past_ending limit (w.taken ++ ys) long goes) ∙ ap (of_input_within limit) (sym w.from) in
+    ∙ sym (past_ending limit (w.taken ++ ys) long goes) ∙ ap (of_input_within limit) (sym w.from) in
     subst (λ e. EndsWith e TooLong old new) is (record { same = refl; written = w.written })
 
 cut_run : StaysEnded → (limit : ℕ) (left now old new : Option (List ℕ)) → IsCutOff limit left now old new → Run limit left old new (Err Read)
@@ -106,8 +106,15 @@ run_played limit left now old new (Ok Memory) h = h
 run_played limit left now old new (Err stop) h = tt
 
 taken_by : (limit : ℕ) (left now old new : Option (List ℕ)) → IsWhole limit left now old new ⊎ IsEnded limit left now old new → IsTaken left now
-taken_by limit left now old new h = ⊎_elim (λ w. inl w.end) (λ w. inr (record { before = w.before; front = w.front; rest = w.rest; taken = w.taken; goes_on =
-    w.goes_on; over = w.over })) h
+taken_by limit left now old new h = ⊎_elim (λ w. inl w.end) (λ w. inr (record {
+  before = w.before;
+  front = w.front;
+  rest = w.rest;
+  taken = w.taken;
+  goes_on =
+      w.goes_on;
+  over = w.over;
+})) h
 
 pub run_taken : (limit : ℕ) (left now old new : Option (List ℕ)) (r : Result Status Stop) → Streams limit left now old new r → FinishesTaken left now r
 run_taken limit left now old new (Ok Done) h = λ k. taken_by limit left now old new h

@@ -51,7 +51,7 @@ module _ (bytes : List ℕ) (s : Standing) (c : Cutting) (old mid : Option (List
 pub streams_on : (n count : ℕ) (s now : Standing) (c cut : Cutting) (left mid end old a b : Option (List ℕ)) (piece : List ℕ) (over : Bool)
     → (at : IsStreaming n s c left mid old a)
     → ((bytes : List ℕ) → StandsFor c bytes → PlaysOn s.machine bytes piece now.machine cut over a b) → over ≡ false → count ≡ length piece
-        → Consumes mid end piece → IsStreaming (n + count) now cut left end old b
+    → Consumes mid end piece → IsStreaming (n + count) now cut left end old b
 streams_on n count s now c cut left mid end old a b piece over at on goes counted from =
     let so_far = at.played in
     let p = on at.taken so_far.stands in
@@ -109,7 +109,7 @@ module _ (limit n : ℕ) (s : Standing) (c : Cutting) (left mid old a : Option (
               let all : at.taken ++ rest ≡ at.taken = ap (λ l. at.taken ++ l) none ∙ append-nil at.taken in
               subst (λ l. AppendsFront old b (of_input_within limit l).bytes) (sym all)
               (subst (λ (e : Ending). AppendsFront old b e.bytes) (sym (whole_ending limit at.taken short)) (front_on at.taken s c old a at.played b
-                  (cuts at.taken) l.more l.commands l.written));
+              (cuts at.taken) l.more l.commands l.written));
         }
       where
         at_end : (now : Option (List ℕ)) (rest : List ℕ) → now ≡ Some rest → IsAtEnd now → rest ≡ []
@@ -162,12 +162,12 @@ module _ (limit n : ℕ) (s : Standing) (c : Cutting) (left mid old a : Option (
         let total : length (at.taken ++ piece) ≡ limit = omega (arith, at.counted, piece_length, length-append at.taken piece) in
         let all : at.taken ++ (piece ++ rest_of_piece) ≡ (at.taken ++ piece) ++ rest_of_piece = sym (append_assoc at.taken piece rest_of_piece) in
         let front : take limit (at.taken ++ (piece ++ rest_of_piece)) ≡ at.taken ++ piece = ap (take limit) all ∙ ap (λ k. take k ((at.taken ++ piece)
-            ++ rest_of_piece)) (sym total) ∙ take-append_seam (at.taken ++ piece) rest_of_piece in
+        ++ rest_of_piece)) (sym total) ∙ take-append_seam (at.taken ++ piece) rest_of_piece in
         let played : play_within limit (at.taken ++ (piece ++ rest_of_piece)) ≡ play start (ended (at.taken ++ piece)) = ap (λ l. play start (ended l)) front in
         let goes : (play start (ended (at.taken ++ piece))).over ≡ false = sym (over_on at.taken s c old a at.played (ended (at.taken
-            ++ piece)) p.more p.commands) ∙ sym p.ends in
+        ++ piece)) p.more p.commands) ∙ sym p.ends in
         let written : Appends old b (play start (ended (at.taken ++ piece))).bytes = written_on at.taken s c old a at.played b (ended (at.taken
-            ++ piece)) p.more p.commands p.written in
+        ++ piece)) p.more p.commands p.written in
         record {
           taken = at.taken ++ (piece ++ rest_of_piece);
           from = all_from;
@@ -185,14 +185,14 @@ module _ (limit n : ℕ) (s : Standing) (c : Cutting) (left mid old a : Option (
           from = all_from;
           written = λ rest is.
               let all : (at.taken ++ (piece ++ rest_of_piece)) ++ rest ≡ (at.taken ++ piece) ++ (rest_of_piece
-                  ++ rest) = regroup at.taken piece rest_of_piece rest in
+              ++ rest) = regroup at.taken piece rest_of_piece rest in
               let more = fronted stays limit (at.taken ++ piece) (rest_of_piece ++ rest) short in
               let commands : ended (at.taken ++ piece) ++ more.0 ≡ ended at.taken ++ (here.0 ++ more.0) = ap (λ l. l ++ more.0) here.1
-                  ∙ append_assoc (ended at.taken) here.0 more.0 in
+              ∙ append_assoc (ended at.taken) here.0 more.0 in
               let bytes : (of_input_within limit ((at.taken ++ (piece ++ rest_of_piece)) ++ rest)).bytes ≡ (play start (ended (at.taken ++ piece)
-                  ++ more.0)).bytes = ap (λ l. (of_input_within limit l).bytes) all ∙ more.1 in
+              ++ more.0)).bytes = ap (λ l. (of_input_within limit l).bytes) all ∙ more.1 in
               rw bytes (front_on at.taken s c old a at.played b (ended (at.taken ++ piece) ++ more.0) (here.0
-                  ++ more.0) commands (on at.taken at.played.stands here.0 more.0 here.1));
+              ++ more.0) commands (on at.taken at.played.stands here.0 more.0 here.1));
         }
       where
         regroup : (w x y z : List ℕ) → (w ++ (x ++ y)) ++ z ≡ (w ++ x) ++ (y ++ z)

@@ -107,7 +107,7 @@ mark_other : (bytes : List ℕ) → IsOther (mark_piece bytes)
 mark_other bytes =
     by_test (begins bytes (codes "--") || begins bytes (codes "//")) (White (length (take_while is_in_line bytes))) _ tt
     (by_test (begins bytes (codes "/*")) (comment_piece (drop 2 bytes)) (symbol_piece bytes) (by_option (λ n. White n) (comment_end 2 false (drop 2 bytes))
-        (code_of L 4) (λ n. tt)) (symbols_other bytes))
+    (code_of L 4) (λ n. tt)) (symbols_other bytes))
 
 piece_other : (bytes : List ℕ) → IsOther (piece_of bytes)
 piece_other [] = tt
@@ -117,11 +117,11 @@ piece_other (b ∷ rest) =
     let tag = take_while is_name_byte rest in
     by_test (is_white b) (White (white_length (b ∷ rest))) _ tt
     (by_test (is_letter b) (word_piece word) _ (by_test (nat_le (length word) 64) (Token (word_kind word) (length word)) (Bad (code_of L 5))
-        (word_other word) tt)
+    (word_other word) tt)
     (by_test (is_digit b) (number_piece digits) _ (by_test (is_some (number_of_digits digits)) (Token Int (length digits)) (Bad (code_of L 3)) refl tt)
     (by_test (b == 39) (string_piece rest) _ (by_option (λ n. Token Str n) (string_end 1 false rest) (code_of L 4) (λ n. refl))
     (by_test (b == 64) (at_piece tag) (mark_piece (b ∷ rest)) (by_test (same_text tag (codes "pre")) (Token AtPre (length tag + 1)) (Bad (code_of L 2)) refl tt)
-        (mark_other (b ∷ rest))))))
+    (mark_other (b ∷ rest))))))
 
 -- tokens whose kinds are such
 abbrev IsEnded : Tokens → Type 0

@@ -12,8 +12,13 @@ rank_of_call (Some to) None = 0
 rank_of_call None nest = 0
 
 abbrev rank_in : List ℕ → List Bool → ℕ → ℕ
-rank_in to nest p = elim (nat_lt p 96) [ true ↦ 0 | false ↦ elim (nat_lt p 159) [ true ↦ rank_of_call (slice_get to (p - 96)) (slice_get nest (p - 96))
-    | false ↦ 2 * p ] ]
+rank_in to nest p = elim (nat_lt p 96) [
+  | true ↦ 0
+  | false ↦ elim (nat_lt p 159) [
+    | true ↦ rank_of_call (slice_get to (p - 96)) (slice_get nest (p - 96))
+    | false ↦ 2 * p
+  ]
+]
 
 pub few : length all_prods ≤ 65536
 unfolding token_prods call_prods type_prods expression_prods statement_prods command_prods model_prods all_prods

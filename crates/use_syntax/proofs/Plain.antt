@@ -117,7 +117,7 @@ module _ (g : Table) (plain : ℕ → Bool) where
         let within : at < length ks = slice_get_within ks at (suc k) e in
         let long = end.long in
         ⊎_elim (λ (lt : at < last). omega (arith, lt)) (λ (le : last ≤ at). let same : at ≡ last = omega (arith, within, long, le) in
-            let there : slice_get ks at ≡ Some 0 = subst (λ (n : ℕ). slice_get ks n ≡ Some 0) (sym same) end.there in absurd (cc)) (cases_lt at last)
+        let there : slice_get ks at ≡ Some 0 = subst (λ (n : ℕ). slice_get ks n ≡ Some 0) (sym same) end.there in absurd (cc)) (cases_lt at last)
 
     mutual
       inside : (p level at : ℕ) (a : Outcome) → Gives g ks p level at a → plain p ≡ true → at ≤ last → IsInside last a

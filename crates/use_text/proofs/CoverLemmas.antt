@@ -72,7 +72,7 @@ bad_is bytes none (lexeme n is piece sized) = absurd (none_longest bytes n none 
 read_lexeme : (bytes ns : List ℕ) (n at : ℕ) (place : Place) (end : TokenAt) (piece : Piece) → 0 < n → n ≤ length bytes → piece_of bytes ≡ piece
     → IsSized n piece
     → ((end : TokenAt) → tokens_from 0 (at + n) (behind_all place (take n bytes)) end (drop n bytes) ≡ lexeme_tokens (at + n) (behind_all place
-        (take n bytes)) end (drop n bytes) ns)
+    (take n bytes)) end (drop n bytes) ns)
     → tokens_from 0 at place end bytes ≡ reading piece at place end (λ skip end. lexeme_tokens (at + n) (behind_all place (take n bytes)) end (drop n bytes) ns)
 read_lexeme bytes ns n at place end (White k) some within is sized more = white_read n at place end bytes some within (is ∙ ap White sized) ∙ more end
 read_lexeme bytes ns n at place end (Token kind k) some within is sized more =

@@ -50,9 +50,9 @@ ends_line on new kept_is count_is waiting_is bytes stands =
     let b = open_block 1 None es in
     let n : on.count + 1 ≡ 1 + length es = omega (arith, stands.count) in
     let found : ended_cuts (on.count + 1) on.kept.block on.kept ≡ line_cuts (1 + length es) b line = ap (λ k. ended_cuts (on.count + 1) k.block k) stands.kept
-        ∙ ap (λ m. ended_cuts m (option_map kept_block b) (kept_of b line)) n ∙ ended_of (1 + length es) b line in
+    ∙ ap (λ m. ended_cuts m (option_map kept_block b) (kept_of b line)) n ∙ ended_of (1 + length es) b line in
     let after : kept_after (on.count + 1) on.kept.block on.kept ≡ kept_of (block_after (1 + length es) b line) [] = ap (λ k. kept_after
-        (on.count + 1) k.block k) stands.kept ∙ ap (λ m. kept_after m (option_map kept_block b) (kept_of b line)) n ∙ after_of (1 + length es) b line in
+    (on.count + 1) k.block k) stands.kept ∙ ap (λ m. kept_after m (option_map kept_block b) (kept_of b line)) n ∙ after_of (1 + length es) b line in
     let block : open_block 1 None (es ++ line ∷ []) ≡ block_after (1 + length es) b line = block_append 1 None es (line ∷ []) in
     record {
       stands = record {
@@ -100,7 +100,7 @@ pub fed_line : (old c on new : Cutting) (piece : List ℕ) (at end : ℕ) → at
     → IsFed c (slice_range piece at end) on → IsFed on (10 ∷ []) new → IsFed old (take (end + 1) piece) new
 fed_line old c on new piece at end le lt is first second feed =
     let range : slice_range piece at (end + 1) ≡ slice_range piece at end ++ 10 ∷ [] = range_more piece at end le lt ∙ ap (λ b. slice_range piece at end ++ b
-        ∷ []) is in
+    ∷ []) is in
     fed_range old c new piece at (end + 1) (omega arith) first (rw range (fed_then c on new (slice_range piece at end) (10 ∷ []) second feed))
 
 pub fed_all : (old c new : Cutting) (piece : List ℕ) (at : ℕ) → IsFed old (take at piece) c → IsFed c (drop at piece) new → IsFed old piece new
@@ -119,7 +119,7 @@ finished c more is bytes stands = last (open_line bytes) refl ∙ ap (λ l. ende
     found =
         let b = open_block 1 None (ended_lines bytes) in
         ap (λ k. finished_cuts (c.count + 1) k.block k) stands.kept ∙ ap (λ m. finished_cuts m (option_map kept_block b) (kept_of b (open_line bytes))) first
-            ∙ finished_of (1 + length (ended_lines bytes)) b (open_line bytes)
+        ∙ finished_of (1 + length (ended_lines bytes)) b (open_line bytes)
 
     last : (rest : List ℕ) → open_line bytes ≡ rest → cuts bytes ≡ ended bytes ++ last_cuts (1 + length (ended_lines bytes)) (open_block 1 None
         (ended_lines bytes)) rest
@@ -129,11 +129,11 @@ finished c more is bytes stands = last (open_line bytes) refl ∙ ap (λ l. ende
         let n = 1 + length (ended_lines bytes) in
         let o = open_block 1 None (ended_lines bytes) in
         let one : lines_cuts 1 None (ended_lines bytes ++ l) ≡ ended bytes ++ line_cuts n o (b ∷ rest) = cuts_append 1 None (ended_lines bytes) l
-            ∙ ap (λ x. ended bytes ++ x) (append-nil (line_cuts n o (b ∷ rest))) in
+        ∙ ap (λ x. ended bytes ++ x) (append-nil (line_cuts n o (b ∷ rest))) in
         let two : open_block 1 None (ended_lines bytes ++ l) ≡ block_after n o (b ∷ rest) = block_append 1 None (ended_lines bytes) l in
         ap (λ ls. lines_cuts 1 None ls ++ cut_off (open_block 1 None ls)) (lines_some bytes b rest at) ∙ ap (λ x. x
-            ++ cut_off (open_block 1 None (ended_lines bytes ++ l))) one ∙ ap (λ x. (ended bytes ++ line_cuts n o (b ∷ rest)) ++ cut_off x) two
-            ∙ append_assoc (ended bytes) (line_cuts n o (b ∷ rest)) (cut_off (block_after n o (b ∷ rest)))
+        ++ cut_off (open_block 1 None (ended_lines bytes ++ l))) one ∙ ap (λ x. (ended bytes ++ line_cuts n o (b ∷ rest)) ++ cut_off x) two
+        ∙ append_assoc (ended bytes) (line_cuts n o (b ∷ rest)) (cut_off (block_after n o (b ∷ rest)))
 
 ended_first : (bytes : List ℕ) → Extends (ended bytes) (cuts bytes)
 ended_first bytes = last (open_line bytes) refl
@@ -143,9 +143,11 @@ ended_first bytes = last (open_line bytes) refl
     last (b ∷ rest) at =
         let line = (b ∷ rest) ∷ [] in
         let more = lines_cuts (1 + length (ended_lines bytes)) (open_block 1 None (ended_lines bytes)) line in
-        let off = cut_off (open_block 1 None (ended_lines bytes ++ line)) in
-        (more ++ off, ap (λ ls. lines_cuts 1 None ls ++ cut_off (open_block 1 None ls)) (lines_some bytes b rest at) ∙ ap (λ l. l
-            ++ off) (cuts_append 1 None (ended_lines bytes) line) ∙ append_assoc (ended bytes) more off)
+        let off = cut_off (open_block 1 None (ended_lines bytes ++ line)) in (
+          more ++ off,
+          ap (λ ls. lines_cuts 1 None ls ++ cut_off (open_block 1 None ls)) (lines_some bytes b rest at) ∙ ap (λ l. l
+              ++ off) (cuts_append 1 None (ended_lines bytes) line) ∙ append_assoc (ended bytes) more off,
+        )
 
 extends_on : (xs ys zs : List Cut) → Extends xs ys → Extends ys zs → Extends xs zs
 extends_on xs ys zs a b = (a.0 ++ b.0, b.1 ∙ ap (λ l. l ++ b.0) a.1 ∙ append_assoc xs a.0 b.0)
@@ -153,8 +155,11 @@ extends_on xs ys zs a b = (a.0 ++ b.0, b.1 ∙ ap (λ l. l ++ b.0) a.1 ∙ appen
 pub stays_ended : StaysEnded
 stays_ended bytes more =
     let lines = ended_parts (glue (open_line bytes) (parts more)) in
-    let later : Extends (ended bytes) (ended (bytes ++ more)) = (lines_cuts (1 + length (ended_lines bytes)) (open_block 1 None (ended_lines bytes)) lines, ap
-        (lines_cuts 1 None) (ended_go_on bytes more) ∙ cuts_append 1 None (ended_lines bytes) lines) in
+    let later : Extends (ended bytes) (ended (bytes ++ more)) = (
+      lines_cuts (1 + length (ended_lines bytes)) (open_block 1 None (ended_lines bytes)) lines,
+      ap
+          (lines_cuts 1 None) (ended_go_on bytes more) ∙ cuts_append 1 None (ended_lines bytes) lines,
+    ) in
     (later, extends_on (ended bytes) (ended (bytes ++ more)) (cuts (bytes ++ more)) later (ended_first (bytes ++ more)))
 
 command_later : (m n : ℕ) (c : Cut) → m ≤ n → IsCommand m c → IsCommand n c

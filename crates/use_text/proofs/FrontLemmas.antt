@@ -44,16 +44,16 @@ front_run : (p : ℕ → Bool) (b : ℕ) (rest : List ℕ) (f : List ℕ → Pie
     → lexeme_piece (b ∷ xs) ≡ f (b ∷ xs)) → ((l : List ℕ) → IsSized (length l) (f l)) → Front (b ∷ rest) (f (take_while p (b ∷ rest)))
 front_run p b rest f h test piece sized =
     lexeme (suc (length (take_while p rest))) (run_longest p b rest test) (ap f (run_length p b rest h) ∙ ap (λ l. f (b ∷ l)) (sym (run_taken p rest))
-        ∙ sym (piece (take (length (take_while p rest)) rest))) (let e : length (take_while p (b
-        ∷ rest)) ≡ suc (length (take_while p rest)) = ap length (run_length p b rest h) in subst (λ (n : ℕ). IsSized n (f (take_while p (b
-        ∷ rest)))) e (sized (take_while p (b ∷ rest))))
+    ∙ sym (piece (take (length (take_while p rest)) rest))) (let e : length (take_while p (b
+    ∷ rest)) ≡ suc (length (take_while p rest)) = ap length (run_length p b rest h) in subst (λ (n : ℕ). IsSized n (f (take_while p (b
+    ∷ rest)))) e (sized (take_while p (b ∷ rest))))
 
 -- `@` and a word
 front_at : (b : ℕ) (rest : List ℕ) → ((xs : List ℕ) → is_lexeme (b ∷ xs) ≡ list_all is_name_byte xs) → ((xs : List ℕ) → lexeme_piece (b ∷ xs) ≡ at_piece xs)
     → Front (b ∷ rest) (at_piece (take_while is_name_byte rest))
 front_at b rest test piece =
     lexeme (suc (length (take_while is_name_byte rest))) (run_longest is_name_byte b rest test) (ap at_piece (sym (run_taken is_name_byte rest))
-        ∙ sym (piece (take (length (take_while is_name_byte rest)) rest))) (at_sized (take_while is_name_byte rest))
+    ∙ sym (piece (take (length (take_while is_name_byte rest)) rest))) (at_sized (take_while is_name_byte rest))
 
 -- a string
 front_string : (b : ℕ) (rest : List ℕ) → ((xs : List ℕ) → is_lexeme (b ∷ xs) ≡ is_string false xs) → ((xs : List ℕ) → lexeme_piece (b
@@ -73,18 +73,23 @@ front_string b rest test piece h = by_end (string_end 1 false rest) refl
     by_end : (o : Option ℕ) → string_end 1 false rest ≡ o → Front (b ∷ rest) (option_map_or (λ n. Token Str n) o (Bad (code_of L 4)))
     by_end None e =
         nothing (none_by b rest (is_string false) test (λ j le. not_true (is_string false (take j rest)) (λ p. none_some (1 + j) (sym e
-            ∙ string_exact 1 false rest j le p))))
+        ∙ string_exact 1 false rest j le p))))
         (ap Bad (sym (open_code (b == 39) (begins_comment (b ∷ rest)) h)))
     by_end (Some n) e =
         let at = string_found 1 false rest n e in
         let long : n ≡ suc at.k = at.is ∙ omega arith in
         let size : length (b ∷ take at.k rest) ≡ suc at.k = ap suc (length-take-le at.k rest at.within) in
         lexeme (suc at.k) (longest_by b rest (is_string false) test at.k at.within at.passes (later at.k n e at.is)) (ap (Token Str) (long ∙ sym size)
-            ∙ sym (piece (take at.k rest))) long
+        ∙ sym (piece (take at.k rest))) long
       where
         later : (k n : ℕ) → string_end 1 false rest ≡ Some n → n ≡ 1 + k → (j : ℕ) → k < j → j ≤ length rest → is_string false (take j rest) ≡ false
-        later k n e is j lt le = not_true (is_string false (take j rest)) (λ p. absurd (omega (arith, same_end n (1 + j) (sym e
-            ∙ string_exact 1 false rest j le p), is, lt)))
+        later k n e is j lt le = not_true (is_string false (take j rest)) (λ p. absurd (omega (
+          arith,
+          same_end n (1 + j) (sym e
+              ∙ string_exact 1 false rest j le p),
+          is,
+          lt,
+        )))
 
 pub front : (bytes : List ℕ) → Front bytes (piece_of bytes)
 front [] = nothing none refl
@@ -134,6 +139,10 @@ front (b ∷ rest) =
     front_other : is_white b ≡ false → is_letter b ≡ false → is_digit b ≡ false → (b == 39) ≡ false → (b == 64) ≡ false → Front (b ∷ rest) (piece_of (b ∷ rest))
     front_other white letter digit quote at = at_piece_of (mark_piece (b ∷ rest)) (when_false _ _ _ white ∙ when_false _ _ _ letter ∙ when_false _ _ _ digit
         ∙ when_false _ _ _ quote ∙ when_false _ _ _ at)
-        (front_mark b rest (record { test = λ xs. when_false _ _ _ white ∙ when_false _ _ _ letter ∙ when_false _ _ _ digit ∙ when_false _ _ _ quote
-            ∙ when_false _ _ _ at; piece = λ xs. when_false _ _ _ white ∙ when_false _ _ _ letter ∙ when_false _ _ _ digit ∙ when_false _ _ _ quote
-            ∙ when_false _ _ _ at; quote = quote }))
+        (front_mark b rest (record {
+          test = λ xs. when_false _ _ _ white ∙ when_false _ _ _ letter ∙ when_false _ _ _ digit ∙ when_false _ _ _ quote
+              ∙ when_false _ _ _ at;
+          piece = λ xs. when_false _ _ _ white ∙ when_false _ _ _ letter ∙ when_false _ _ _ digit ∙ when_false _ _ _ quote
+              ∙ when_false _ _ _ at;
+          quote = quote;
+        }))

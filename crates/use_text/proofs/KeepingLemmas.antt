@@ -152,8 +152,12 @@ finished_of n None (c ∷ line) = rw (idle_of (c ∷ line), only_of 92 (c ∷ li
     by_line false true = refl
     by_line false false = refl
 finished_of n (Some b) [] = rw (cut_of_kept (unwrap_or b.text []) b.first Unfinished) refl
-finished_of n (Some b) (c ∷ line) = rw (only_of 46 (c ∷ line), cut_of_kept (unwrap_or b.text []) b.first Whole, cut_of_kept (joined b.text (c
-    ∷ line)) b.first Unfinished) (by_closing (is_closing_line (c ∷ line)))
+finished_of n (Some b) (c ∷ line) = rw (
+  only_of 46 (c ∷ line),
+  cut_of_kept (unwrap_or b.text []) b.first Whole,
+  cut_of_kept (joined b.text (c
+      ∷ line)) b.first Unfinished,
+) (by_closing (is_closing_line (c ∷ line)))
   where
     by_closing : (t : Bool) → (if t then sized_cut (unwrap_or b.text []) b.first Whole ∷ [] else sized_cut (joined b.text (c ∷ line)) b.first Unfinished ∷ [])
         ≡ (if t then block_cut b Whole ∷ [] else []) ++ cut_off (if t then None else Some (block_of b.first (Some (joined b.text (c ∷ line)))))

@@ -65,7 +65,7 @@ run_past p [] j lt le = absurd (omega arith)
 run_past p (b ∷ rest) zero lt le = absurd (omega arith)
 run_past p (b ∷ rest) (suc j) lt le =
     by_bool (p b) (λ h. let lt' : suc (length (take_while p rest)) < suc j = rw (run_length p b rest h) at lt
-        in rw h (run_past p rest j (omega arith) (omega arith))) (λ h. rw h refl)
+    in rw h (run_past p rest j (omega arith) (omega arith))) (λ h. rw h refl)
 
 pub run_longest : (p : ℕ → Bool) (b : ℕ) (rest : List ℕ) → ((xs : List ℕ) → is_lexeme (b ∷ xs) ≡ list_all p xs) → IsLongest (b
     ∷ rest) (suc (length (take_while p rest)))
@@ -87,7 +87,7 @@ string_exact n taken [] (suc k) le h = cc
 string_exact n taken (b ∷ rest) zero le h = cc
 string_exact n taken (b ∷ rest) (suc k) le h =
     exact_at (b == 10) ((b == 39) && not taken) n k rest (is_string ((b == 92) && not taken) (take k rest)) (string_end (n + 1) ((b == 92)
-        && not taken) rest) (omega arith)
+    && not taken) rest) (omega arith)
     (λ g. string_exact (n + 1) ((b == 92) && not taken) rest k (omega arith) g ∙ ap Some (omega arith)) h
 
 pub comment_exact : (n : ℕ) (star : Bool) (bs : List ℕ) (k : ℕ) → k ≤ length bs → is_comment star (take k bs) ≡ true → comment_end n star bs ≡ Some (n + k)
@@ -137,5 +137,5 @@ comment_found n star [] e h = absurd (none_some e h)
     none_some e h = cc
 comment_found n star (b ∷ rest) e h =
     let at = found_at false ((b == 47) && star) n e rest (is_comment (b == 42)) (comment_end (n + 1) (b == 42) rest) (comment_found (n + 1)
-        (b == 42) rest e) h in
+    (b == 42) rest e) h in
     record { k = suc at.0; within = omega (arith, at.1); is = at.2; passes = at.3 }

@@ -79,7 +79,7 @@ never_later [] text front bytes m h k = refl
 never_later (row ∷ rows) text front bytes m h k =
     or_false (same_text (text row.0) (take m bytes)) (is_among rows text (take m bytes))
     (not_true (same_text (text row.0) (take m bytes)) (λ e. not_is (begins (text row.0) front) (and_left _ _ h) (ap (λ l. begins l front) (same_is (text row.0)
-        (take m bytes) e) ∙ k)))
+    (take m bytes) e) ∙ k)))
     (never_later rows text front bytes m (and_right _ _ h) k)
 
 data SymbolFront {A : Type 0} (rows : List (A × TokenKind)) (text : A → List ℕ) (bytes : List ℕ) : Type 0 where
@@ -125,7 +125,7 @@ later_row row rows text bytes k (found n within is longer same sized) =
     found n within (or_second (same_text t (take n bytes)) (is_among rows text (take n bytes)) is)
     (λ m lt le. or_false (same_text t (take m bytes)) (is_among rows text (take m bytes)) (other m le) (longer m lt le))
     (ap (λ b. cond b (Token row.1 (length t)) (symbol_among rows text bytes)) k ∙ same ∙ sym (ap (λ b. cond b (Token row.1 (length t)) (symbol_among rows text
-        (take n bytes))) (begins_never t bytes n k)))
+    (take n bytes))) (begins_never t bytes n k)))
     (sized_later (begins bytes t) (Token row.1 (length t)) n (symbol_among rows text bytes) k sized)
   where
     differ : (t : Bool) → t ≡ true → t ≡ false → ⊥
@@ -137,7 +137,7 @@ later_row row rows text bytes k (found n within is longer same sized) =
 later_row row rows text bytes k (missing none bad) =
     let t = text row.0 in
     missing (λ m le. or_false (same_text t (take m bytes)) (is_among rows text (take m bytes)) (not_true (same_text t (take m bytes)) (λ e. differ
-        (begins bytes t) (same_begins t bytes m le e) k)) (none m le))
+    (begins bytes t) (same_begins t bytes m le e) k)) (none m le))
     (ap (λ b. cond b (Token row.1 (length t)) (symbol_among rows text bytes)) k ∙ bad)
   where
     differ : (t : Bool) → t ≡ true → t ≡ false → ⊥
@@ -147,7 +147,7 @@ symbol_front : {A : Type 0} (rows : List (A × TokenKind)) (text : A → List �
 symbol_front [] text bytes h = missing (λ m le. refl) refl
 symbol_front (row ∷ rows) text bytes h =
     by_bool (begins bytes (text row.0)) (first_row row rows text bytes (and_left _ _ h)) (λ k. later_row row rows text bytes k (symbol_front rows text bytes
-        (and_right _ _ h)))
+    (and_right _ _ h)))
 
 symbols_front : (bytes : List ℕ) → SymbolFront SYMBOLS (λ t. t.now) bytes
 symbols_front bytes = symbol_front SYMBOLS (λ t. t.now) bytes refl
@@ -213,8 +213,12 @@ front_symbol b rest mark h k = by_front (symbols_front (b ∷ rest))
     some (suc n) e = omega arith
 
     by_front : SymbolFront SYMBOLS (λ t. t.now) (b ∷ rest) → Front (b ∷ rest) (symbol_among SYMBOLS (λ t. t.now) (b ∷ rest))
-    by_front (found n within is longer same sized) = lexeme n (record { within = within; is = test n within ∙ is; longest = λ m lt le. test m le
-        ∙ longer m lt le }) (same ∙ sym (piece n (some n is))) sized
+    by_front (found n within is longer same sized) = lexeme n (record {
+      within = within;
+      is = test n within ∙ is;
+      longest = λ m lt le. test m le
+          ∙ longer m lt le;
+    }) (same ∙ sym (piece n (some n is))) sized
     by_front (missing none bad) = nothing (λ m le. test m le ∙ none m le) (bad ∙ ap Bad (sym (no_code (b == 39) (begins_comment (b ∷ rest)) mark.quote k)))
 
 -- the bytes that begin a comment
@@ -231,8 +235,11 @@ two_in_line b c more h = by_mark (or_cases (begins (b ∷ c ∷ more) (codes "--
 -- a comment to the end of its line
 front_line : (b : ℕ) (rest : List ℕ) → BeginsMark b → begins_line_comment (b ∷ rest) ≡ true → Front (b ∷ rest) (White (length (take_while is_in_line (b
     ∷ rest))))
-front_line b [] mark h = absurd (one (begins (b ∷ []) (codes "--")) (begins (b ∷ []) (codes "//")) (λ k. omega (arith, begins_within (b
-    ∷ []) (codes "--") k)) (λ k. omega (arith, begins_within (b ∷ []) (codes "//") k)) h)
+front_line b [] mark h = absurd (one (begins (b ∷ []) (codes "--")) (begins (b ∷ []) (codes "//")) (λ k. omega (
+  arith,
+  begins_within (b
+      ∷ []) (codes "--") k,
+)) (λ k. omega (arith, begins_within (b ∷ []) (codes "//") k)) h)
   where
     one : (x y : Bool) → (x ≡ true → ⊥) → (y ≡ true → ⊥) → x || y ≡ true → ⊥
     one true y f g h = f refl
@@ -240,15 +247,18 @@ front_line b [] mark h = absurd (one (begins (b ∷ []) (codes "--")) (begins (b
 front_line b (c ∷ more) mark h =
     let both = two_in_line b c more h in
     let run = length (take_while is_in_line more) in
-    let long : length (take_while is_in_line (b ∷ c ∷ more)) ≡ suc (suc run) = rw (run_length is_in_line b (c
-        ∷ more) both.0, run_length is_in_line c more both.1) refl in
+    let long : length (take_while is_in_line (b ∷ c ∷ more)) ≡ suc (suc run) = rw (
+      run_length is_in_line b (c
+          ∷ more) both.0,
+      run_length is_in_line c more both.1,
+    ) refl in
     let test = λ (xs : List ℕ). mark.test (c ∷ xs) ∙ mark_is_line (b ∷ c ∷ xs) h ∙ ap (λ t. t && list_all is_in_line (c ∷ xs)) both.0 ∙ ap (λ t. t
-        && list_all is_in_line xs) both.1 in
+    && list_all is_in_line xs) both.1 in
     let is : is_lexeme (take (suc (suc run)) (b ∷ c ∷ more)) ≡ true = test (take run more) ∙ ap (list_all is_in_line) (run_taken is_in_line more)
-        ∙ run_all is_in_line more in
+    ∙ run_all is_in_line more in
     let within : suc (suc run) ≤ length (b ∷ c ∷ more) = omega (arith, run_within is_in_line more) in
     let piece : lexeme_piece (take (suc (suc run)) (b ∷ c ∷ more)) ≡ White (suc (suc run)) = mark.piece (c ∷ take run more) ∙ lexeme_comment (b ∷ c
-        ∷ take run more) (or_left _ _ h) ∙ ap White (length-take-le (suc (suc run)) (b ∷ c ∷ more) within) in
+    ∷ take run more) (or_left _ _ h) ∙ ap White (length-take-le (suc (suc run)) (b ∷ c ∷ more) within) in
     lexeme (suc (suc run)) (record { within = within; is = is; longest = later run test }) (ap White long ∙ sym piece) long
   where
     later : (run : ℕ) → ((xs : List ℕ) → is_lexeme (b ∷ c ∷ xs) ≡ list_all is_in_line xs) → (m : ℕ) → suc (suc (length (take_while is_in_line more))) < m
@@ -295,16 +305,21 @@ front_between b c more o mark h k e = by_end o e
         let long : n ≡ suc (suc at.k) = at.is ∙ omega arith in
         let within : suc (suc at.k) ≤ length (b ∷ c ∷ more) = omega (arith, at.within) in
         let piece : lexeme_piece (take (suc (suc at.k)) (b ∷ c ∷ more)) ≡ White (suc (suc at.k)) = mark.piece (c ∷ take at.k more) ∙ lexeme_comment (b ∷ c
-            ∷ take at.k more) (or_second _ _ k) ∙ ap White (length-take-le (suc (suc at.k)) (b ∷ c ∷ more) within) in
+        ∷ take at.k more) (or_second _ _ k) ∙ ap White (length-take-le (suc (suc at.k)) (b ∷ c ∷ more) within) in
         lexeme (suc (suc at.k)) (record { within = within; is = test (take at.k more) ∙ at.passes; longest = later at.k n e at.is }) (ap White long
-            ∙ sym piece) long
+        ∙ sym piece) long
       where
         later : (k n : ℕ) → comment_end 2 false more ≡ Some n → n ≡ 2 + k → (m : ℕ) → suc (suc k) < m → m ≤ length (b ∷ c ∷ more) → is_lexeme (take m (b ∷ c
             ∷ more)) ≡ false
         later k n e is zero lt le = absurd (omega arith)
         later k n e is (suc zero) lt le = absurd (omega arith)
-        later k n e is (suc (suc m)) lt le = test (take m more) ∙ not_true (is_comment false (take m more)) (λ p. absurd (omega (arith, same_end n (2 + m)
-            (sym e ∙ comment_exact 2 false more m (omega arith) p), is, lt)))
+        later k n e is (suc (suc m)) lt le = test (take m more) ∙ not_true (is_comment false (take m more)) (λ p. absurd (omega (
+          arith,
+          same_end n (2 + m)
+              (sym e ∙ comment_exact 2 false more m (omega arith) p),
+          is,
+          lt,
+        )))
 
 front_comment : (b : ℕ) (rest : List ℕ) → BeginsMark b → begins_line_comment (b ∷ rest) ≡ false → begins_comment (b ∷ rest) ≡ true → Front (b
     ∷ rest) (comment_piece (drop 2 (b ∷ rest)))
@@ -317,9 +332,9 @@ front_mark b rest mark =
     let P = λ (piece : Piece). Front bytes piece in
     by_bool (begins_line_comment bytes)
     (λ h. subst P (sym (ap (λ t. cond t (White (length (take_while is_in_line bytes))) (cond (begins_comment bytes) (comment_piece (drop 2 bytes))
-        (symbol_piece bytes))) h)) (front_line b rest mark h))
+    (symbol_piece bytes))) h)) (front_line b rest mark h))
     (λ h. by_bool (begins_comment bytes)
     (λ k. subst P (sym (ap (λ t. cond t (White (length (take_while is_in_line bytes))) (cond (begins_comment bytes) (comment_piece (drop 2 bytes))
-        (symbol_piece bytes))) h ∙ ap (λ t. cond t (comment_piece (drop 2 bytes)) (symbol_piece bytes)) k)) (front_comment b rest mark h k))
+    (symbol_piece bytes))) h ∙ ap (λ t. cond t (comment_piece (drop 2 bytes)) (symbol_piece bytes)) k)) (front_comment b rest mark h k))
     (λ k. subst P (sym (ap (λ t. cond t (White (length (take_while is_in_line bytes))) (cond (begins_comment bytes) (comment_piece (drop 2 bytes))
-        (symbol_piece bytes))) h ∙ ap (λ t. cond t (comment_piece (drop 2 bytes)) (symbol_piece bytes)) k)) (front_symbol b rest mark h k)))
+    (symbol_piece bytes))) h ∙ ap (λ t. cond t (comment_piece (drop 2 bytes)) (symbol_piece bytes)) k)) (front_symbol b rest mark h k)))

@@ -75,7 +75,7 @@ at_front : (b : ℕ) (rest : List ℕ) → IsFront (at_piece (take_while is_name
 at_front b rest =
     let word = take_while is_name_byte rest in
     by_test (same_text word (codes "pre")) (Token AtPre (length word + 1)) (Bad (code_of L 2)) (length (b
-        ∷ rest)) (λ h. (omega arith, omega (arith, within_take is_name_byte rest))) (λ h. tt)
+    ∷ rest)) (λ h. (omega arith, omega (arith, within_take is_name_byte rest))) (λ h. tt)
 
 pub and_left : (x y : Bool) → x && y ≡ true → x ≡ true
 and_left true y h = refl
@@ -96,14 +96,17 @@ begins_within bs front h = same_front front bs h
 comment_front : (bs : List ℕ) → 2 ≤ length bs → IsFront (comment_piece (drop 2 bs)) (length bs)
 comment_front bs two =
     by_option (λ k. White k) (comment_end 2 false (drop 2 bs)) (code_of L 4) (length bs) (some_weaker (comment_end 2 false (drop 2 bs)) _ _ (λ k h.
-        (omega arith, omega (arith, length-drop 2 bs))) (comment_between 2 false (drop 2 bs)))
+    (omega arith, omega (arith, length-drop 2 bs))) (comment_between 2 false (drop 2 bs)))
 
 rows_front : {A : Type 0} (bs : List ℕ) (rows : List (A × TokenKind)) (text : A → List ℕ) → list_all (λ row. nat_lt 0 (length (text row.0))) rows ≡ true
     → IsFront (symbol_among rows text bs) (length bs)
 rows_front bs [] text h = tt
 rows_front bs (row ∷ rows) text h =
-    by_test (begins bs (text row.0)) (Token row.1 (length (text row.0))) (symbol_among rows text bs) (length bs) (λ k. (ltb-true _ _
-        (and_left _ _ h), begins_within bs (text row.0) k)) (λ k. rows_front bs rows text (and_right _ _ h))
+    by_test (begins bs (text row.0)) (Token row.1 (length (text row.0))) (symbol_among rows text bs) (length bs) (λ k. (
+      ltb-true _ _
+          (and_left _ _ h),
+      begins_within bs (text row.0) k,
+    )) (λ k. rows_front bs rows text (and_right _ _ h))
 
 symbol_front : (bs : List ℕ) → IsFront (symbol_piece bs) (length bs)
 unfolding symbol_piece
@@ -119,10 +122,13 @@ in_line b h = rw (or_right _ (b == 10) h) refl
 mark_front : (b : ℕ) (rest : List ℕ) → is_white b ≡ false → IsFront (mark_piece (b ∷ rest)) (length (b ∷ rest))
 mark_front b rest dark =
     let bs = b ∷ rest in
-    by_test (begins bs (codes "--") || begins bs (codes "//")) (White (length (take_while is_in_line bs))) _ (length bs) (λ h. (some_taken is_in_line b rest
-        (in_line b dark), within_take is_in_line bs))
+    by_test (begins bs (codes "--") || begins bs (codes "//")) (White (length (take_while is_in_line bs))) _ (length bs) (λ h. (
+      some_taken is_in_line b rest
+          (in_line b dark),
+      within_take is_in_line bs,
+    ))
     (λ h. by_test (begins bs (codes "/*")) (comment_piece (drop 2 bs)) (symbol_piece bs) (length bs) (λ k. comment_front bs (begins_within bs (codes "/*") k))
-        (λ k. symbol_front bs))
+    (λ k. symbol_front bs))
 
 pub piece_front : (bs : List ℕ) → IsFront (piece_of bs) (length bs)
 piece_front [] = tt
@@ -130,8 +136,8 @@ piece_front (b ∷ rest) =
     let n = length (b ∷ rest) in
     by_test (is_white b) (White (length (take_while is_white (b ∷ rest)))) _ n (λ h. (some_taken is_white b rest h, within_take is_white (b ∷ rest)))
     (λ dark. by_test (is_letter b) (word_piece (take_while is_name_byte (b ∷ rest))) _ n (λ h. word_front (take_while is_name_byte (b
-        ∷ rest)) n (some_taken is_name_byte b rest (name_begins b h)) (within_take is_name_byte (b ∷ rest)))
+    ∷ rest)) n (some_taken is_name_byte b rest (name_begins b h)) (within_take is_name_byte (b ∷ rest)))
     (λ k. by_test (is_digit b) (number_piece (take_while is_digit (b ∷ rest))) _ n (λ h. number_front (take_while is_digit (b
-        ∷ rest)) n (some_taken is_digit b rest h) (within_take is_digit (b ∷ rest)))
+    ∷ rest)) n (some_taken is_digit b rest h) (within_take is_digit (b ∷ rest)))
     (λ k. by_test (b == 39) (string_piece rest) _ n (λ h. string_front b rest)
     (λ k. by_test (b == 64) (at_piece (take_while is_name_byte rest)) (mark_piece (b ∷ rest)) n (λ h. at_front b rest) (λ k. mark_front b rest dark)))))

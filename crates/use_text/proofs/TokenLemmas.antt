@@ -47,7 +47,7 @@ pub token_read : (kind : TokenKind) (n at : ℕ) (place : Place) (end : TokenAt)
 token_read kind n at place end [] some within is = absurd (omega arith)
 token_read kind n at place end (b ∷ rest) some within is =
     ap (λ p. reading p at place end (λ skip end. tokens_from skip (at + 1) (behind place b) end rest)) is
-        ∙ ap (before (token_at kind at (at + n) place)) (rest_of n at place (end_behind at place n) b rest some within)
+    ∙ ap (before (token_at kind at (at + n) place)) (rest_of n at place (end_behind at place n) b rest some within)
 
 pub bad_read : (code : Code) (at : ℕ) (place : Place) (end : TokenAt) (bs : List ℕ) → 0 < length bs → piece_of bs ≡ Bad code
     → tokens_from 0 at place end bs ≡ Err (refusal_at code place)

@@ -7,9 +7,9 @@ use Rattle.class_decls.proofs.limits.first_bad_end.Goals as goal
 pub returns-then-is_some : goal.returns-then-is_some
 returns-then-is_some c =
     c.bad_end-place.ensures ∙ sym (given_at (λ a. option_or (bad_part a.first) (bad_part a.second)) c.args.assocs.now _ _ c.assocs-test.true c.assoc-item.is
-        c.assocs.invariant (ap is_some (sym c.bad_end-place.ensures) ∙ sym c.is_some.ensures ∙ c.if-is_some.true))
+    c.assocs.invariant (ap is_some (sym c.bad_end-place.ensures) ∙ sym c.is_some.ensures ∙ c.if-is_some.true))
 
 pub assocs-preserved : goal.assocs-preserved
 assocs-preserved c =
     given_none (λ a. option_or (bad_part a.first) (bad_part a.second)) c.args.assocs.now _ _ c.assocs-test.true c.assoc-item.is c.assocs.invariant
-        (sym c.bad_end-place.ensures ∙ none_from _ (sym c.is_some.ensures ∙ c.if-is_some.false))
+    (sym c.bad_end-place.ensures ∙ none_from _ (sym c.is_some.ensures ∙ c.if-is_some.false))

@@ -16,5 +16,5 @@ returns c = λ t.
     ∙ list_any-append (λ y. same_text y t) (plain_types ++ both) more
     ∙ ap₂ (λ a b. a || b)
     (list_any-append (λ y. same_text y t) plain_types both ∙ ap (λ b. has_text plain_types t
-        || b) (any-map (λ y. same_text y t) (λ e. e.name.text) c.args.decls.now.enums))
+    || b) (any-map (λ y. same_text y t) (λ e. e.name.text) c.args.decls.now.enums))
     (any-map (λ y. same_text y t) (λ c. c.name.text) c.args.decls.now.classes)

@@ -23,4 +23,10 @@ returns-in_ok-above-in-BodiesMixed c =
 
 pub returns-in_ok-above-in-TooManyContracts : goal.returns-in_ok-above-in-TooManyContracts
 returns-in_ok-above-in-TooManyContracts c =
-    rw (c.in-TooManyContracts.is, c.first_too_many.ensures, c.as_slice-in-TooManyContracts.ensures.value, c.in_ok-above-in-TooManyContracts.ensures, c.decls-decls.ensures) refl
+    rw (
+      c.in-TooManyContracts.is,
+      c.first_too_many.ensures,
+      c.as_slice-in-TooManyContracts.ensures.value,
+      c.in_ok-above-in-TooManyContracts.ensures,
+      c.decls-decls.ensures,
+    ) refl

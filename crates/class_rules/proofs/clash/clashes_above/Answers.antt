@@ -8,4 +8,5 @@ use Rattle.class_rules.proofs.clash.clashes_above.Goals as goal
 pub returns : goal.returns
 returns c =
     c.clashes_in.ensures
-    ∙ sym (any-map (λ d. list_any (λ other. same_text other.name.text c.args.op.now.name.text && clash c.args.kind c.args.op.now other) d.ops) (λ d. d.now) c.args.classes.now)
+    ∙ sym (any-map (λ d. list_any (λ other. same_text other.name.text c.args.op.now.name.text
+    && clash c.args.kind c.args.op.now other) d.ops) (λ d. d.now) c.args.classes.now)

@@ -6,7 +6,13 @@ use Rattle.class_rules.proofs.features.attr_texts.Goals as goal
 
 pub classes-preserved : goal.classes-preserved
 classes-preserved c =
-    rw (c.in_ok-add_texts.ensures, c.as_slice.ensures, c.classes.invariant, flat_map_next (λ d. map (λ a. a.name.text) d.now.attrs) c.args.classes.now _ _ c.classes-test.true c.class-item.is) refl
+    rw (
+      c.in_ok-add_texts.ensures,
+      c.as_slice.ensures,
+      c.classes.invariant,
+      flat_map_next (λ d. map (λ a. a.name.text) d.now.attrs) c.args.classes.now _ _
+          c.classes-test.true c.class-item.is,
+    ) refl
 
 pub returns : goal.returns
 returns c =

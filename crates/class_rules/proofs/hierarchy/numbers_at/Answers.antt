@@ -9,6 +9,7 @@ places-preserved c =
       c.in_ok-add_number.ensures,
       c.number_of.ensures,
       c.places.invariant,
-      filter_map_more (λ p. get_or c.args.numbers.now p None) c.args.places.now c.places.place-index (get_or c.args.places.now c.places.place-index 0) c.places-test.true
+      filter_map_more (λ p. get_or c.args.numbers.now p None) c.args.places.now c.places.place-index
+          (get_or c.args.places.now c.places.place-index 0) c.places-test.true
           (default_alike c.args.places.now c.places.place-index 0 (get_or c.args.places.now c.places.place-index 0) c.places-test.true),
     ) refl

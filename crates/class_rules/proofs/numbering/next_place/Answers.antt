@@ -11,10 +11,12 @@ places-init c =
 
 pub returns-then-may_follow : goal.returns-then-may_follow
 returns-then-may_follow c =
-    sym (least_found (λ i. not (get_or c.args.done.now i true) && list_all (λ p. get_or c.args.done.now p true) (row_at c.args.parents.now i)) (length c.args.parents.now) c.places.place
+    sym (least_found (λ i. not (get_or c.args.done.now i true) && list_all (λ p. get_or c.args.done.now p true) (row_at c.args.parents.now i))
+    (length c.args.parents.now) c.places.place
     c.places.invariant (sym c.may_follow.ensures ∙ c.if-may_follow.true) c.places-test.true)
 
 pub returns : goal.returns
 returns c =
     let all : c.places.place ≡ length c.args.parents.now = omega arith in
-    sym (subst (λ n. least_below (λ i. not (get_or c.args.done.now i true) && list_all (λ p. get_or c.args.done.now p true) (row_at c.args.parents.now i)) n ≡ None) all c.places.invariant)
+    sym (subst (λ n. least_below (λ i. not (get_or c.args.done.now i true) && list_all (λ p. get_or c.args.done.now p true)
+    (row_at c.args.parents.now i)) n ≡ None) all c.places.invariant)

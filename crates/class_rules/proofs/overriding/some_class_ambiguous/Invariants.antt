@@ -5,4 +5,5 @@ use Rattle.class_rules.specs.Operations.{has_overriding}
 use Rattle.class_rules.proofs.overriding.some_class_ambiguous.Given as goal
 
 abbrev pub invariant-declaring : goal.invariant-declaring
-invariant-declaring l = list_any (λ c. list_any (λ op. not (has_overriding l.hierarchy l.classes op.name.text)) c.now.ops) (take l.class-index l.declaring) ≡ false
+invariant-declaring l = list_any (λ c. list_any (λ op. not (has_overriding l.hierarchy l.classes op.name.text)) c.now.ops)
+    (take l.class-index l.declaring) ≡ false

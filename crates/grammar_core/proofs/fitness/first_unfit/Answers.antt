@@ -13,5 +13,10 @@ prods-preserved c = below_more (λ q. Unfit c.args.g.now q → ⊥) c.prods.p c.
     ∙ c.in_ok-is_unfit.ensures.1 u))
 
 pub returns : goal.returns
-returns c = λ p u. let i = unfit_inside c.args.g.now p u in c.prods.invariant p (omega (arith, i, c.prods-test.false, ap (λ
-    (l : List Prod). length l) c.as_slice-x-items.ensures)) u
+returns c = λ p u. let i = unfit_inside c.args.g.now p u in c.prods.invariant p (omega (
+  arith,
+  i,
+  c.prods-test.false,
+  ap (λ
+      (l : List Prod). length l) c.as_slice-x-items.ensures,
+)) u

@@ -10,8 +10,11 @@ pub returns-then-is_outside : goal.returns-then-is_outside
 returns-then-is_outside c = (λ t. outside_unfit c.args.g.now c.args.p c.args.x.now c.requires.at (sym c.is_outside.ensures ∙ c.if-is_outside.true), λ u. refl)
 
 pub returns-then-has_empty_body : goal.returns-then-has_empty_body
-returns-then-has_empty_body c = (λ t. empty_unfit c.args.g.now c.args.p c.args.x.now c.requires.at c.args.empty.now c.requires.marks
-    (sym c.has_empty_body.ensures ∙ c.if-has_empty_body.true), λ u. refl)
+returns-then-has_empty_body c = (
+  λ t. empty_unfit c.args.g.now c.args.p c.args.x.now c.requires.at c.args.empty.now c.requires.marks
+      (sym c.has_empty_body.ensures ∙ c.if-has_empty_body.true),
+  λ u. refl,
+)
 
 pub leads_back-requires : goal.leads_back-requires
 leads_back-requires c = slice_get_within c.args.g.now.prods c.args.p c.args.x.now c.requires.at
@@ -20,4 +23,4 @@ pub returns : goal.returns
 returns c =
     let flat = λ (way : Path (graph_of false c.args.g.now) c.args.p c.args.p). false≢true (sym c.if-branch.false ∙ c.in_ok-leads_back.ensures.1 way) in
     last_test c.args.g.now c.args.p c.args.x.now c.requires.at c.args.empty.now c.requires.marks (sym c.is_outside.ensures
-        ∙ c.if-is_outside.false) (sym c.has_empty_body.ensures ∙ c.if-has_empty_body.false) flat c.call_comes_back.result c.call_comes_back.ensures
+    ∙ c.if-is_outside.false) (sym c.has_empty_body.ensures ∙ c.if-has_empty_body.false) flat c.call_comes_back.result c.call_comes_back.ensures

@@ -7,7 +7,7 @@ pub keep-preserved : goal.keep-preserved
 keep-preserved g c =
     let next = c.in-Some.ensures.steps in
     let places = subst (λ zs. (k : ℕ) (d : g.row.T.Denot) → k < length zs → get_or c.in_ok-places.places.items k true ≡ is_first g.T.Ord.cmp zs k
-        (get_or zs k d)) c.as_slice.ensures.value c.in_ok-places.ensures.places in
+    (get_or zs k d)) c.as_slice.ensures.value c.in_ok-places.ensures.places in
     record {
       at = at_more g.met.T.Ord.total c.keep.yielded c.in-Some.x c.keep.i c.keep.invariant.at;
       whole = c.keep.invariant.whole ∙ ap (λ l. c.keep.yielded ++ l) next.0 ∙ sym (append_assoc c.keep.yielded (c.in-Some.x ∷ []) _);

@@ -11,7 +11,7 @@ pair-init g c =
     let i = c.into_iter.ensures in
     let same = c.into_iter-key-iterator.ensures.into_iter_gives in
     let front : into_iter_items c.into_iter-key-iterator.result.a ≡ c.args.keys.items = ap (λ p. into_iter_items p.a) same ∙ ap into_iter_items z.first
-        ∙ i.rest in
+    ∙ i.rest in
     let back : into_iter_items c.into_iter-key-iterator.result.b ≡ c.args.items.items = ap (λ p. into_iter_items p.b) same ∙ z.second.0 in
     record {
       whole = sym (ap₂ zip front back);

@@ -8,4 +8,4 @@ returns g c =
     let test = λ (y : g.row.T.Denot). is_lt (g.T.Ord.cmp y c.args.x.now) in
     point_is_count test c.args.items.now c.partition_point.result c.partition_point.ensures.bound
     (IsPartitionPoint-from_clause test c.args.items.now c.partition_point.result c.partition_point.ensures.partitioned
-        (low_front g.met.T.Ord.total c.args.items.now c.args.x.now c.requires.sorted) (λ a r q k. search rules))
+    (low_front g.met.T.Ord.total c.args.items.now c.args.x.now c.requires.sorted) (λ a r q k. search rules))

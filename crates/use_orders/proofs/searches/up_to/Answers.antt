@@ -9,4 +9,4 @@ returns g c =
     let test = λ (y : g.row.T.Denot). is_le (g.T.Ord.cmp y c.args.x.now) in
     point_is_count test c.args.items.now c.partition_point.result c.partition_point.ensures.bound
     (IsPartitionPoint-from_clause test c.args.items.now c.partition_point.result c.partition_point.ensures.partitioned
-        (high_front g.met.T.Ord.total c.args.items.now c.args.x.now c.requires.sorted) (λ a r q k. search rules))
+    (high_front g.met.T.Ord.total c.args.items.now c.args.x.now c.requires.sorted) (λ a r q k. search rules))

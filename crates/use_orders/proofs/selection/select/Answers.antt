@@ -6,7 +6,7 @@ pub pick-preserved : goal.pick-preserved
 pick-preserved g c =
     let next = c.in-Some.ensures.steps in
     let fits = within c.args.items.items c.args.flags.now c.pick.yielded _ _ c.in-Some.x c.pick.i c.requires c.pick.invariant.whole next.0 c.pick.invariant.at
-        in
+    in
     record {
       at = length_more c.pick.yielded c.in-Some.x c.pick.i c.pick.invariant.at;
       whole = c.pick.invariant.whole ∙ ap (λ l. c.pick.yielded ++ l) next.0 ∙ sym (append_assoc c.pick.yielded (c.in-Some.x ∷ []) _);

@@ -3,5 +3,9 @@ use Rattle.use_shell.proofs.MoveLemmas.{on_err, front_of_none}
 use Rattle.use_shell.proofs.play.play_last.Goals as goal
 
 pub returns-in_err-answer-clause-err : goal.returns-in_err-answer-clause-err
-returns-in_err-answer-clause-err g c = on_err c.from_residual.result _ (λ bytes stands. record { more = c.in-Some.cut
-    ∷ []; commands = c.in-Some.ensures.last bytes stands; written = front_of_none _ _ })
+returns-in_err-answer-clause-err g c = on_err c.from_residual.result _ (λ bytes stands. record {
+  more = c.in-Some.cut
+      ∷ [];
+  commands = c.in-Some.ensures.last bytes stands;
+  written = front_of_none _ _;
+})

@@ -20,7 +20,7 @@ pub returns-in_err-count-clause-played : goal.returns-in_err-count-clause-played
 returns-in_err-count-clause-played g c =
     let is : c.from_residual.result ≡ Err Read = search rules in
     cut_short _ _ _ _ _ c.from_residual.result is (cut_off c.args.limit c.pieces.taken c.pieces.session c.pieces.cutter _ _ _ _ c.pieces.invariant.at
-        c.pieces.invariant.within _ _ c.in_err-count.ensures.bytes refl)
+    c.pieces.invariant.within _ _ c.in_err-count.ensures.bytes refl)
 
 pub returns-in_err-play_last-clause-played : goal.returns-in_err-play_last-clause-played
 returns-in_err-play_last-clause-played g c =
@@ -29,34 +29,34 @@ returns-in_err-play_last-clause-played g c =
     let end = c.in_ok-count.ensures.bytes.1 c.if-count-eq0.true (search rules) in
     stopped_short _ _ _ _ _ c.from_residual-in_err-play_last.result c.from_residual-in_err-play_last.ensures.0 other
     (stopped_at_end c.args.limit c.pieces.taken c.pieces.session c.pieces.cutter _ _ _ _ c.pieces.invariant.at c.pieces.invariant.within _ _ taken end
-        c.in_err-play_last.ensures.err)
+    c.in_err-play_last.ensures.err)
 
 pub returns-then-count-eq0-clause-played : goal.returns-then-count-eq0-clause-played
 returns-then-count-eq0-clause-played g c =
     let taken = rw c.if-count-eq0.true at c.in_ok-count.ensures.bytes.0 in
     let end = c.in_ok-count.ensures.bytes.1 c.if-count-eq0.true (search rules) in
     inl (whole c.args.limit c.pieces.taken c.pieces.session c.pieces.cutter _ _ _ _ c.pieces.invariant.at c.pieces.invariant.within _ _ taken end
-        c.in_ok-play_last.ensures.ok)
+    c.in_ok-play_last.ensures.ok)
 
 pub returns-in_err-play_piece-clause-played : goal.returns-in_err-play_piece-clause-played
 returns-in_err-play_piece-clause-played g c =
     let other : ¬ IsErrOf c.from_residual-in_err-play_piece.result Read = search rules in
     stopped_short _ _ _ _ _ c.from_residual-in_err-play_piece.result c.from_residual-in_err-play_piece.ensures.0 other
     (stopped_in c.args.limit c.pieces.taken c.pieces.session c.pieces.cutter _ _ _ _ c.pieces.invariant.at c.pieces.invariant.within c.take_piece.new.piece
-        c.in_ok-count.count c.min-within.result _ _ c.in_ok-count.ensures.bytes.0 c.in_ok-count.ensures.bound.0 c.min-within.ensures c.new-cutter.ensures.stays
-        c.in_err-play_piece.ensures.err)
+    c.in_ok-count.count c.min-within.result _ _ c.in_ok-count.ensures.bytes.0 c.in_ok-count.ensures.bound.0 c.min-within.ensures c.new-cutter.ensures.stays
+    c.in_err-play_piece.ensures.err)
 
 pub returns-then-branch-clause-played : goal.returns-then-branch-clause-played
 returns-then-branch-clause-played g c =
     inr (ended_in c.args.limit c.pieces.taken c.pieces.session c.pieces.cutter _ _ _ _ c.pieces.invariant.at c.pieces.invariant.within c.take_piece.new.piece
-        c.in_ok-count.count c.min-within.result _ _ c.in_ok-count.ensures.bytes.0 c.in_ok-count.ensures.bound.0 c.min-within.ensures
-        c.play_piece.new.session.machine c.play_piece.new.cutter (rw c.if-branch.true at c.in_ok-play_piece.ensures.ok))
+    c.in_ok-count.count c.min-within.result _ _ c.in_ok-count.ensures.bytes.0 c.in_ok-count.ensures.bound.0 c.min-within.ensures
+    c.play_piece.new.session.machine c.play_piece.new.cutter (rw c.if-branch.true at c.in_ok-play_piece.ensures.ok))
 
 pub returns-then-within-count-clause-played : goal.returns-then-within-count-clause-played
 returns-then-within-count-clause-played g c =
     past c.args.limit c.pieces.taken c.pieces.session c.pieces.cutter _ _ _ _ c.pieces.invariant.at c.pieces.invariant.within c.take_piece.new.piece
-        c.in_ok-count.count c.min-within.result _ _ c.in_ok-count.ensures.bytes.0 c.in_ok-count.ensures.bound.0 c.min-within.ensures
-        c.play_piece.new.session.machine c.play_piece.new.cutter (rw c.if-branch.false at c.in_ok-play_piece.ensures.ok) c.if-within-count.true
+    c.in_ok-count.count c.min-within.result _ _ c.in_ok-count.ensures.bytes.0 c.in_ok-count.ensures.bound.0 c.min-within.ensures
+    c.play_piece.new.session.machine c.play_piece.new.cutter (rw c.if-branch.false at c.in_ok-play_piece.ensures.ok) c.if-within-count.true
 
 pub pieces-preserved : goal.pieces-preserved
 pieces-preserved g c =

@@ -15,10 +15,10 @@ same prods to flags e f h = ap (λ (l : List Prod). table_of l to flags) e ∙ a
 pub of_fit-requires : goal.of_fit-requires
 of_fit-requires c =
     let e = same c.in_ok-prods.prods.items c.in_ok-places.places.items c.in_ok-nests.nests.items c.in_ok-prods.ensures c.in_ok-places.ensures
-        c.in_ok-nests.ensures in
+    c.in_ok-nests.ensures in
     subst (λ (t : Table). IsFit t) (sym e) is_fit
 
 pub returns-clause-ok : goal.returns-clause-ok
 returns-clause-ok c =
     c.in_ok-of_fit.ensures.is ∙ same c.in_ok-prods.prods.items c.in_ok-places.places.items c.in_ok-nests.nests.items c.in_ok-prods.ensures
-        c.in_ok-places.ensures c.in_ok-nests.ensures
+    c.in_ok-places.ensures c.in_ok-nests.ensures

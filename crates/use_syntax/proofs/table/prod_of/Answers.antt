@@ -20,4 +20,4 @@ pub returns-in_ok-branches_of-in-OrElse : goal.returns-in_ok-branches_of-in-OrEl
 returns-in_ok-branches_of-in-OrElse c =
     subst (λ (r : Row). Case c.in_ok-branches_of-in-OrElse.field-0 (Some c.place_of.result) ≡ prod_of (form_of r)) (sym c.in-OrElse.is)
     (ap (λ (l : List Branch). Case l (Some c.place_of.result)) (c.in_ok-branches_of-in-OrElse.ensures ∙ branches_same c.in-OrElse.branches.now)
-        ∙ ap (λ o. Case (branches_of (map (λ b. (b.0.now, b.1)) c.in-OrElse.branches.now)) (Some o)) c.place_of.ensures)
+    ∙ ap (λ o. Case (branches_of (map (λ b. (b.0.now, b.1)) c.in-OrElse.branches.now)) (Some o)) c.place_of.ensures)

@@ -6,4 +6,4 @@ use Rattle.class_decls.proofs.name_set.NameSet.contains.Goals as goal
 pub returns : goal.returns
 returns c =
     c.contains.ensures ∙ ap (λ l. has text_cmp l c.args.text.now) (c.as_slice.ensures.value ∙ c.self.view_is)
-        ∙ sym (has_text_is c.args.self.now c.args.text.now)
+    ∙ sym (has_text_is c.args.self.now c.args.text.now)

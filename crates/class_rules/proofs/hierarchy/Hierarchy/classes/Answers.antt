@@ -10,6 +10,7 @@ numbers-preserved c =
       c.in_ok-add_class.ensures,
       c.class.ensures,
       c.numbers.invariant,
-      filter_map_more (class_numbered c.args.self.now) c.args.numbers.now c.numbers.number-index (get_or c.args.numbers.now c.numbers.number-index 0) c.numbers-test.true
+      filter_map_more (class_numbered c.args.self.now) c.args.numbers.now c.numbers.number-index (get_or c.args.numbers.now c.numbers.number-index 0)
+          c.numbers-test.true
           (default_alike c.args.numbers.now c.numbers.number-index 0 (get_or c.args.numbers.now c.numbers.number-index 0) c.numbers-test.true),
     ) refl

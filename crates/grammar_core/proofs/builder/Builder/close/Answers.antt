@@ -16,13 +16,13 @@ invariant_of-self-2 c =
     let count : c.len-3.result - i ≡ length w - i = omega (arith, c.len-3.ensures, c.self.inside.waiting.ok.0) in
     let least : i ≡ min (length w) c.args.start = c.min-start.ensures ∙ ap (λ (k : ℕ). min k c.args.start) long in
     let all = extended c.extend_from_slice.result c.extend_from_slice.new.self.items (nodes
-        ++ take (length c.deref.result.now - i) (drop i c.deref.result.now)) nodes (sym c.is_err.ensures.value
-        ∙ c.if-is_err.false) c.extend_from_slice.ensures.items
+    ++ take (length c.deref.result.now - i) (drop i c.deref.result.now)) nodes (sym c.is_err.ensures.value
+    ∙ c.if-is_err.false) c.extend_from_slice.ensures.items
     ∙ ap (λ (l : List Node). nodes ++ take (length l - i) (drop i l)) c.deref.ensures.value ∙ ap (λ (l : List Node). nodes ++ l) (slice_from i w) in
     subst (λ (l : List Node). IsBuilt (built l c.put.new.nodes.items)) (sym all)
     (close_built nodes w c.args.rule c.args.start i c.self.invariant least c.put.result c.put.new.nodes.items
     (put_as c.put.result c.put.new.nodes.items c.truncate.new.self.items (take i w) c.args.rule c.len-first.result (length nodes) (c.len-3.result - i)
-        (length w - i) c.put.ensures c.truncate.ensures.items first count))
+    (length w - i) c.put.ensures c.truncate.ensures.items first count))
 
 pub returns : goal.returns
 returns c =
@@ -34,13 +34,13 @@ returns c =
     let count : c.len-3.result - i ≡ length w - i = omega (arith, c.len-3.ensures, c.self.inside.waiting.ok.0) in
     let least : i ≡ min (length w) c.args.start = c.min-start.ensures ∙ ap (λ (k : ℕ). min k c.args.start) long in
     let all = extended c.extend_from_slice.result c.extend_from_slice.new.self.items (nodes
-        ++ take (length c.deref.result.now - i) (drop i c.deref.result.now)) nodes (sym c.is_err.ensures.value
-        ∙ c.if-is_err.false) c.extend_from_slice.ensures.items
+    ++ take (length c.deref.result.now - i) (drop i c.deref.result.now)) nodes (sym c.is_err.ensures.value
+    ∙ c.if-is_err.false) c.extend_from_slice.ensures.items
     ∙ ap (λ (l : List Node). nodes ++ take (length l - i) (drop i l)) c.deref.ensures.value ∙ ap (λ (l : List Node). nodes ++ l) (slice_from i w) in
     subst (λ (b : Built). MatchResult c.put.result (λ u. read_trees (built c.extend_from_slice.new.self.items c.put.new.nodes.items) ≡ closed c.args.rule
-        c.args.start (read_trees b)) (λ e. e ≡ Memory)) c.self.view_is
+    c.args.start (read_trees b)) (λ e. e ≡ Memory)) c.self.view_is
     (subst (λ (l : List Node). MatchResult c.put.result (λ u. read_trees (built l c.put.new.nodes.items) ≡ closed c.args.rule c.args.start (read_trees
-        (built nodes w))) (λ e. e ≡ Memory)) (sym all)
+    (built nodes w))) (λ e. e ≡ Memory)) (sym all)
     (close_reads nodes w c.args.rule c.args.start i c.self.invariant least c.put.result c.put.new.nodes.items
     (put_as c.put.result c.put.new.nodes.items c.truncate.new.self.items (take i w) c.args.rule c.len-first.result (length nodes) (c.len-3.result - i)
-        (length w - i) c.put.ensures c.truncate.ensures.items first count)))
+    (length w - i) c.put.ensures c.truncate.ensures.items first count)))

@@ -13,5 +13,5 @@ invariant_of-self c = push_built c.put.result c.self.inside.nodes.items c.self.i
 pub returns : goal.returns
 returns c =
     subst (λ (b : Built). MatchResult c.put.result (λ u. read_trees (built c.self.inside.nodes.items c.put.new.nodes.items) ≡ read_trees b
-        ++ (leaf c.args.kind c.args.token ∷ [])) (λ e. e ≡ Memory)) c.self.view_is
+    ++ (leaf c.args.kind c.args.token ∷ [])) (λ e. e ≡ Memory)) c.self.view_is
     (push_reads c.put.result c.self.inside.nodes.items c.self.inside.waiting.items c.put.new.nodes.items c.args.kind c.args.token c.put.ensures)

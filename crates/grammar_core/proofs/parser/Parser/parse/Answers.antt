@@ -16,24 +16,42 @@ pub returns-in-Ok : goal.returns-in-Ok
 returns-in-Ok c =
     let m = c.in-Ok.ensures in
     let p = parsed_tree c.args.g.now (kinds c.args.tokens.now) c.table.ensures.fit c.args.start c.requires.rule c.in-Ok.to
-        (read_trees c.run.new.work.built) c.take_tree.result m (c.if-to-tokens.true ∙ sym (as_long c.args.tokens.now)) c.take_tree.ensures in
-    record { ok = p.ok; err = p.err; within = err_within c.args.g.now (kinds c.args.tokens.now) c.args.start (length c.args.tokens.now) c.take_tree.result (sym
-        (as_long c.args.tokens.now)) p.err; verdict = p.only (verdict c.args.g.now (kinds c.args.tokens.now) c.args.start) (computed_holds c.args.g.now
-        (kinds c.args.tokens.now) c.table.ensures.fit c.args.start c.requires.rule); only = p.only }
+    (read_trees c.run.new.work.built) c.take_tree.result m (c.if-to-tokens.true ∙ sym (as_long c.args.tokens.now)) c.take_tree.ensures in
+    record {
+      ok = p.ok;
+      err = p.err;
+      within = err_within c.args.g.now (kinds c.args.tokens.now) c.args.start (length c.args.tokens.now) c.take_tree.result (sym
+          (as_long c.args.tokens.now)) p.err;
+      verdict = p.only (verdict c.args.g.now (kinds c.args.tokens.now) c.args.start) (computed_holds c.args.g.now
+          (kinds c.args.tokens.now) c.table.ensures.fit c.args.start c.requires.rule);
+      only = p.only;
+    }
 
 pub returns-in-Ok-2 : goal.returns-in-Ok-2
 returns-in-Ok-2 c =
     let m = c.in-Ok.ensures in
     let p = parsed_front c.args.g.now (kinds c.args.tokens.now) c.table.ensures.fit c.args.start c.requires.rule c.in-Ok.to (read_trees c.run.new.work.built) m
-        (λ e. c.if-to-tokens.false (e ∙ as_long c.args.tokens.now)) in
-    record { ok = p.ok; err = p.err; within = err_within c.args.g.now (kinds c.args.tokens.now) c.args.start (length c.args.tokens.now) (Err (Stuck c.in-Ok.to))
-        (sym (as_long c.args.tokens.now)) p.err; verdict = p.only (verdict c.args.g.now (kinds c.args.tokens.now) c.args.start) (computed_holds c.args.g.now
-        (kinds c.args.tokens.now) c.table.ensures.fit c.args.start c.requires.rule); only = p.only }
+    (λ e. c.if-to-tokens.false (e ∙ as_long c.args.tokens.now)) in
+    record {
+      ok = p.ok;
+      err = p.err;
+      within = err_within c.args.g.now (kinds c.args.tokens.now) c.args.start (length c.args.tokens.now) (Err (Stuck c.in-Ok.to))
+          (sym (as_long c.args.tokens.now)) p.err;
+      verdict = p.only (verdict c.args.g.now (kinds c.args.tokens.now) c.args.start) (computed_holds c.args.g.now
+          (kinds c.args.tokens.now) c.table.ensures.fit c.args.start c.requires.rule);
+      only = p.only;
+    }
 
 pub returns-in-Err : goal.returns-in-Err
 returns-in-Err c =
     let m = c.in-Err.ensures in
     let p = parsed_err c.args.g.now (kinds c.args.tokens.now) c.table.ensures.fit c.args.start c.requires.rule c.in-Err.e (read_trees c.run.new.work.built) m in
-    record { ok = p.ok; err = p.err; within = err_within c.args.g.now (kinds c.args.tokens.now) c.args.start (length c.args.tokens.now) (Err c.in-Err.e) (sym
-        (as_long c.args.tokens.now)) p.err; verdict = p.only (verdict c.args.g.now (kinds c.args.tokens.now) c.args.start) (computed_holds c.args.g.now
-        (kinds c.args.tokens.now) c.table.ensures.fit c.args.start c.requires.rule); only = p.only }
+    record {
+      ok = p.ok;
+      err = p.err;
+      within = err_within c.args.g.now (kinds c.args.tokens.now) c.args.start (length c.args.tokens.now) (Err c.in-Err.e) (sym
+          (as_long c.args.tokens.now)) p.err;
+      verdict = p.only (verdict c.args.g.now (kinds c.args.tokens.now) c.args.start) (computed_holds c.args.g.now
+          (kinds c.args.tokens.now) c.table.ensures.fit c.args.start c.requires.rule);
+      only = p.only;
+    }

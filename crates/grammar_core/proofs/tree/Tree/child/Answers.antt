@@ -14,9 +14,11 @@ returns-in-Token c = let e = ap (λ (t : ParseTree). length (below t)) (tree_at-
 
 pub returns-then-i-count : goal.returns-then-i-count
 returns-then-i-count c =
-    let p = placed_at c.args.self.now c.args.n c.in-Rule.field-0 c.in-Rule.first c.in-Rule.count c.in-Rule.ensures.tree.placed c.in-Rule.ensures.node in
-    (omega (arith, p), below_at c.args.self.now c.args.n c.in-Rule.field-0 c.in-Rule.first c.in-Rule.count c.args.i c.in-Rule.ensures.tree.placed
-        c.in-Rule.ensures.node c.if-i-count.true)
+    let p = placed_at c.args.self.now c.args.n c.in-Rule.field-0 c.in-Rule.first c.in-Rule.count c.in-Rule.ensures.tree.placed c.in-Rule.ensures.node in (
+      omega (arith, p),
+      below_at c.args.self.now c.args.n c.in-Rule.field-0 c.in-Rule.first c.in-Rule.count c.args.i c.in-Rule.ensures.tree.placed
+          c.in-Rule.ensures.node c.if-i-count.true,
+    )
 
 pub returns-else-i-count : goal.returns-else-i-count
 returns-else-i-count c = let e = length-below c.args.self.now c.args.n c.in-Rule.field-0 c.in-Rule.first c.in-Rule.count c.in-Rule.ensures.tree.placed

@@ -28,4 +28,4 @@ returns-clause-fed c =
     let on = c.extend-2.new.self in
     let kept_is = c.in_ok-extend-2.ensures.kept ∙ ap (extended old.kept) (take_rest c.args.piece.now c.lines.at) in
     fed_all c.args.self.now old on c.args.piece.now c.lines.at c.lines.invariant.fed (goes_on old on
-        (drop c.lines.at c.args.piece.now) c.in_default.ensures.«open» kept_is c.extend-2.ensures.count c.extend-2.ensures.waiting)
+    (drop c.lines.at c.args.piece.now) c.in_default.ensures.«open» kept_is c.extend-2.ensures.count c.extend-2.ensures.waiting)
