@@ -57,16 +57,15 @@ fn type_in(
     }
     match TypeNode::of(node) {
         None => named_type(alloc, lexed, outer, node),
-        Some(TypeNode {
-            word,
-            element: None,
-        }) => named_type(alloc, lexed, outer, &word),
-        Some(TypeNode {
-            word,
-            element: Some(element),
-        }) => {
-            outer.push(kind_at(&word))?;
-            type_in(alloc, lexed, depth - 1, outer, &element)
+        Some(node) => {
+            let TypeNode { word, element } = node;
+            match element {
+                None => named_type(alloc, lexed, outer, &word),
+                Some(element) => {
+                    outer.push(kind_at(&word))?;
+                    type_in(alloc, lexed, depth - 1, outer, &element)
+                }
+            }
         }
     }
 }

@@ -12,7 +12,7 @@ nodes-preserved c =
       can = tt;
       ends = tt;
       so_far =
-          ap (λ l. l ++ flat_map f rest) (c.in_ok-push_str.ensures ∙ ap (λ t. string_bytes c.nodes.text ++ t) (c.as_str.ensures ∙ c.in_ok-text_at.ensures))
+          ap (λ l. l ++ flat_map f rest) (c.in_ok-push_str.ensures.bytes ∙ ap (λ t. string_bytes c.nodes.text ++ t) (c.as_str.ensures ∙ c.in_ok-more.ensures))
           ∙ flat_map_step f (string_bytes c.nodes.text) c.in-Some.node rest
           ∙ ap (λ l. string_bytes c.nodes.text ++ flat_map f l) (sym c.in-Some.ensures.steps)
           ∙ c.nodes.invariant.so_far;

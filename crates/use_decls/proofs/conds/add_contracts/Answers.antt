@@ -12,7 +12,7 @@ nodes-preserved c =
       can = tt;
       ends = tt;
       so_far =
-          ap (λ l. l ++ filter_map f rest) (c.in_ok-push_some.ensures ∙ ap (λ o. c.nodes.found.items ++ cons_option o []) c.in_ok-contract_part.ensures)
+          ap (λ l. l ++ filter_map f rest) (c.in_ok-push_some.ensures ∙ ap (λ o. c.nodes.found.items ++ cons_option o []) c.in_ok-part.ensures)
           ∙ filter_map_step f c.nodes.found.items c.in-Some.node rest
           ∙ ap (λ l. c.nodes.found.items ++ filter_map f l) (sym c.in-Some.ensures.steps)
           ∙ c.nodes.invariant.so_far;

@@ -11,7 +11,7 @@ nodes-preserved g c =
       can = tt;
       ends = tt;
       so_far =
-          ap (λ l. l ++ filter_map f rest) (c.in_ok-push_some.ensures ∙ ap (λ o. c.nodes.items.items ++ cons_option o []) c.in_ok-of.ensures)
+          ap (λ l. l ++ filter_map f rest) (c.in_ok-push_some.ensures ∙ ap (λ o. c.nodes.items.items ++ cons_option o []) c.in_ok-item.ensures)
           ∙ filter_map_step f c.nodes.items.items c.in-Some.node rest
           ∙ ap (λ l. c.nodes.items.items ++ filter_map f l) (sym c.in-Some.ensures.steps)
           ∙ c.nodes.invariant.so_far;

@@ -11,7 +11,7 @@ nodes-preserved c =
       can = tt;
       ends = tt;
       so_far =
-          ap (λ l. l ++ map f rest) (c.in_ok-push.ensures.items ∙ ap (λ n. c.nodes.names.items ++ n ∷ []) c.in_ok-name_at.ensures)
+          ap (λ l. l ++ map f rest) (c.in_ok-push.ensures.items ∙ ap (λ n. c.nodes.names.items ++ n ∷ []) c.in_ok-name.ensures)
           ∙ map_step f c.nodes.names.items c.in-Some.node rest
           ∙ ap (λ l. c.nodes.names.items ++ map f l) (sym c.in-Some.ensures.steps)
           ∙ c.nodes.invariant.so_far;
