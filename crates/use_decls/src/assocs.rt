@@ -83,12 +83,20 @@ impl Declared for EndDecl {
     ) -> Result<Option<Self>, AllocError> {
         match AssocEndNode::of(node) {
             None => Ok(None),
-            Some(node) => Ok(Some(EndDecl {
-                class: lexed.name_at(alloc, &node.class)?,
-                parts: all_declared(alloc, lexed, node.multiplicities)?,
-                role: role_at(alloc, lexed, &node.class, node.role)?,
-                is_ordered: node.is_ordered,
-            })),
+            Some(node) => {
+                let AssocEndNode {
+                    class,
+                    multiplicities,
+                    role,
+                    is_ordered,
+                } = node;
+                Ok(Some(EndDecl {
+                    class: lexed.name_at(alloc, &class)?,
+                    parts: all_declared(alloc, lexed, multiplicities)?,
+                    role: role_at(alloc, lexed, &class, role)?,
+                    is_ordered,
+                }))
+            }
         }
     }
 }

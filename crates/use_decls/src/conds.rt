@@ -197,8 +197,14 @@ fn add_class_conds(
     match ClassNode::of(node) {
         None => Ok(()),
         Some(class) => {
-            add_opers_conds(alloc, lexed, &class.name, class.operations, found)?;
-            add_invs(alloc, lexed, &class.name, class.invariants, found)
+            let ClassNode {
+                name,
+                operations,
+                invariants,
+                ..
+            } = class;
+            add_opers_conds(alloc, lexed, &name, operations, found)?;
+            add_invs(alloc, lexed, &name, invariants, found)
         }
     }
 }

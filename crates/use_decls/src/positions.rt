@@ -108,6 +108,7 @@ fn cond_decl(alloc: Global, number: u64, part: CondPart) -> Result<CondDecl, All
 pub(crate) fn named(alloc: Global, parts: Vec<CondPart>) -> Result<Items<CondDecl>, AllocError>
     ensures { IfOk result (λ conds. conds ≡ named_behind [] parts.items) }
 {
+    let _ = parts.len();
     let mut counts = BTreeMap::new(alloc);
     let mut conds = Items::new(alloc);
     'parts: for part in parts {

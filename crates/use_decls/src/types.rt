@@ -57,6 +57,7 @@ fn type_in(
     }
     match TypeNode::of(node) {
         None => named_type(alloc, lexed, outer, node),
+<<<<<<< HEAD
         Some(
             TypeNode {
                 word,
@@ -71,6 +72,17 @@ fn type_in(
         ) => {
             outer.push(kind_at(&word))?;
             type_in(alloc, lexed, depth - 1, outer, &element)
+=======
+        Some(node) => {
+            let TypeNode { word, element } = node;
+            match element {
+                None => named_type(alloc, lexed, outer, &word),
+                Some(element) => {
+                    outer.push(kind_at(&word))?;
+                    type_in(alloc, lexed, depth - 1, outer, &element)
+                }
+            }
+>>>>>>> bbc683713e877fb6ea3fe71af73c69af2b6e0ff2
         }
     }
 }
