@@ -57,22 +57,6 @@ fn type_in(
     }
     match TypeNode::of(node) {
         None => named_type(alloc, lexed, outer, node),
-<<<<<<< HEAD
-        Some(
-            TypeNode {
-                word,
-                element: None,
-            },
-        ) => named_type(alloc, lexed, outer, &word),
-        Some(
-            TypeNode {
-                word,
-                element: Some(element),
-            },
-        ) => {
-            outer.push(kind_at(&word))?;
-            type_in(alloc, lexed, depth - 1, outer, &element)
-=======
         Some(node) => {
             let TypeNode { word, element } = node;
             match element {
@@ -82,7 +66,6 @@ fn type_in(
                     type_in(alloc, lexed, depth - 1, outer, &element)
                 }
             }
->>>>>>> bbc683713e877fb6ea3fe71af73c69af2b6e0ff2
         }
     }
 }
