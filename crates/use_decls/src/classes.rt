@@ -15,11 +15,7 @@ use use_nodes::{
 };
 
 /// The names of a list of names.
-fn names_at(
-    alloc: Global,
-    lexed: &Lexed<'_>,
-    node: &NodeRef<'_>,
-) -> Result<Items<Name>, AllocError>
+fn names_at(alloc: Global, lexed: &Lexed<'_>, node: &NodeRef<'_>) -> Result<Items<Name>, AllocError>
     ensures { IfOk result (λ names. names ≡ names_at lexed.now node.now) }
 {
     match NamesNode::of(node) {

@@ -40,12 +40,7 @@ fn op_at(alloc: Global, lexed: &Lexed<'_>, oper: &Oper<'_>) -> Result<OpOf, Allo
 {
     match oper {
         Oper::BesideHead(head) => Ok(OpOf::Here(lexed.name_at(alloc, &head.name)?)),
-        Oper::InContext(head) => Ok(OpOf::Named(head_decl(
-            alloc,
-            lexed,
-            BodyKind::Bare,
-            head,
-        )?)),
+        Oper::InContext(head) => Ok(OpOf::Named(head_decl(alloc, lexed, BodyKind::Bare, head)?)),
     }
 }
 

@@ -30,11 +30,7 @@ fn no_decls(alloc: Global) -> Decls
     }
 }
 
-fn file_decls(
-    alloc: Global,
-    lexed: &Lexed<'_>,
-    file: FileNode<'_>,
-) -> Result<Decls, AllocError>
+fn file_decls(alloc: Global, lexed: &Lexed<'_>, file: FileNode<'_>) -> Result<Decls, AllocError>
     ensures { IfOk result (λ d. d ≡ file_decls lexed.now file.entry) }
 {
     let conds = all_conds(alloc, lexed, file.declarations.copy())?;

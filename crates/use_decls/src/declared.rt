@@ -14,11 +14,7 @@ pub(crate) trait Declared: Drop + Sized {
     ghost declared_by: { LexedText → ParseTree → Option Self };
 
     /// What a node declares; one of another rule declares nothing.
-    fn of(
-        alloc: Global,
-        lexed: &Lexed<'_>,
-        node: &NodeRef<'_>,
-    ) -> Result<Option<Self>, AllocError>
+    fn of(alloc: Global, lexed: &Lexed<'_>, node: &NodeRef<'_>) -> Result<Option<Self>, AllocError>
         ensures { IfOk result (λ d. d ≡ declared_by lexed.now node.now) };
 }
 
