@@ -1,2 +1,3 @@
 mod Stepwise
 mod Counted
+mod Nested

@@ -38,5 +38,5 @@ type_in (suc n) l outer t = type_of_node (type_in n l) l outer t (type_node t)
 abbrev pub max_depth : ℕ
 max_depth = 200
 
-abbrev pub type_decl : LexedText → ParseTree → TypeDecl
+unfoldable pub type_decl : LexedText → ParseTree → TypeDecl
 type_decl l t = type_in max_depth l [] t
