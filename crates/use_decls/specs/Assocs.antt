@@ -29,7 +29,12 @@ mult_part l t = and_then (mult_node t) (λ node.
 
 abbrev pub end_decl : LexedText → ParseTree → Option EndDecl
 end_decl l t = and_then (assoc_end_node t) (λ node.
-    Some (record { class = name_at l node.class; parts = filter_map (mult_part l) node.multiplicities; role = role_at l node.class node.role; is_ordered = node.is_ordered }))
+    Some (record {
+      class = name_at l node.class;
+      parts = filter_map (mult_part l) node.multiplicities;
+      role = role_at l node.class node.role;
+      is_ordered = node.is_ordered;
+    }))
 
 abbrev pub assoc_decl : LexedText → ParseTree → Option AssocDecl
 assoc_decl l t = and_then (assoc_node t) (λ node. and_then (end_decl l node.first) (λ first. and_then (end_decl l node.second) (λ second.

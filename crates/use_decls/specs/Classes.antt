@@ -38,7 +38,12 @@ params_at l (Some t) = option_map_or (λ node. filter_map (param_decl l) node.pa
 
 -- the head of an operation, with the kind of body that stands behind it
 abbrev pub head_decl : LexedText → BodyKind → HeadNode → OpDecl
-head_decl l body node = record { name = name_at l node.name; params = params_at l node.parameters; result_type = option_map (type_decl l) node.of_type; body = body }
+head_decl l body node = record {
+  name = name_at l node.name;
+  params = params_at l node.parameters;
+  result_type = option_map (type_decl l) node.of_type;
+  body = body;
+}
 
 abbrev pub body_kind : OperNode → BodyKind
 body_kind node = if is_some node.query then Query else (if is_some node.statements then Soil else Bare)
@@ -59,4 +64,10 @@ parents_at l (Some t) = option_map_or (λ node. names_at l node.names) (parents_
 
 abbrev pub class_decl : LexedText → ParseTree → Option ClassDecl
 class_decl l t = and_then (class_node t) (λ node.
-    Some (record { name = name_at l node.name; is_abstract = node.is_abstract; parents = parents_at l node.parents; attrs = filter_map (attr_decl l) node.attributes; ops = filter_map (oper_decl l) node.operations }))
+    Some (record {
+      name = name_at l node.name;
+      is_abstract = node.is_abstract;
+      parents = parents_at l node.parents;
+      attrs = filter_map (attr_decl l) node.attributes;
+      ops = filter_map (oper_decl l) node.operations;
+    }))

@@ -228,7 +228,8 @@ fn add_context_contracts(
     nodes: Parts<'_>,
     found: &mut Vec<CondPart>,
 ) -> Result<(), AllocError>
-    ensures { OnOk result (found.new.items ≡ found.old.items ++ option_map_or (λ h. filter_map (contract_part lexed.now class.now (op_at lexed.now (Oper.InContext h))) nodes.entry) head.entry []) }
+    ensures { OnOk result (found.new.items ≡ found.old.items
+        ++ option_map_or (λ h. filter_map (contract_part lexed.now class.now (op_at lexed.now (Oper.InContext h))) nodes.entry) head.entry []) }
 {
     match head {
         None => Ok(()),
