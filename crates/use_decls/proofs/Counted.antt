@@ -1,5 +1,5 @@
 -- Conditions that are counted by their groups.
-use Rattle.std.proofs.Common.{◌≡◌, ℕ, suc, ◌+◌, ◌&&◌, Bool, true, false, cond, List, [], ◌∷◌, ◌++◌, Ordering, nat_cmp, Option, Some, None, refl, sym, ap, ap₂, ◌∙◌, arith, true≢false}
+use Rattle.std.proofs.Common.{◌≡◌, ℕ, ◌+◌, ◌&&◌, Bool, true, false, cond, List, [], ◌∷◌, ◌++◌, Ordering, nat_cmp, Option, Some, refl, sym, ap, ap₂, ◌∙◌, arith, true≢false}
 use Rattle.std.specs.BTreeMap.{BTreeMap, UpdatesBy, get}
 use Rattle.std.specs.declared.cmp.Ordering.TheVariants.{Less, Equal, Greater}
 use Rattle.std.specs.Cmp.Lexicographic.{slice_cmp, texts_ties}

@@ -1,5 +1,5 @@
 -- What was made of the front of a list, and what the rest gives.
-use Rattle.std.proofs.Common.{◌≡◌, List, [], ◌∷◌, ◌++◌, map, Option, Some, None, refl, ap, append_assoc, append-nil}
+use Rattle.std.proofs.Common.{◌≡◌, List, [], ◌∷◌, ◌++◌, map, Option, Some, None, ap, append_assoc, append-nil}
 use Rattle.std.specs.List.{cons_option, filter_map, flat_map}
 
 some_step : {B : Type 0} (found : List B) (o : Option B) (rest : List B) → (found ++ cons_option o []) ++ rest ≡ found ++ cons_option o rest

@@ -1,5 +1,5 @@
 -- Associations.
-use Rattle.std.specs.Prelude.{ℕ, ℤ, pos, List, Option, Some, None, unwrap_or}
+use Rattle.std.specs.Prelude.{ℕ, ℤ, pos, List, Option, Some, unwrap_or}
 use Rattle.std.specs.List.{filter_map, flat_map}
 use Rattle.grammar_core.specs.Trees.{ParseTree}
 use Rattle.use_nodes.specs.declared.parts.Select.TheVariants as s

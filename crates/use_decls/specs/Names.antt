@@ -1,5 +1,5 @@
 -- Tokens as texts, names and numbers.
-use Rattle.std.specs.Prelude.{ℕ, ℤ, Bool, false, not, ◌==◌, nat_le, if◌then◌else◌, List, [], ◌∷◌, length, Option, Some, None, Result, Ok, Err, slice_range}
+use Rattle.std.specs.Prelude.{ℕ, ℤ, Bool, false, not, ◌==◌, nat_le, if◌then◌else◌, List, [], ◌∷◌, length, Option, Some, None, Ok, Err, slice_range}
 use Rattle.std.specs.Char.{to_ascii_lowercase}
 use Rattle.std.specs.List.{list_any}
 use Rattle.std.specs.Str.Lossy.{utf8_lossy}

@@ -63,7 +63,8 @@ fn count_in(counts: &Counts, group: &Group) -> u64
 fn count_one(counts: &mut Counts, group: Group) -> Result<u64, AllocError>
     requires { count_in counts.old group + 1 < 2 ^ 64 }
     ensures number { IfOk result (λ n. n ≡ count_in counts.old group + 1) }
-    ensures counts { OnOk result ((g : Group) → count_in counts.new g ≡ (if is_group group g then count_in counts.old group + 1 else count_in counts.old g)) }
+    ensures counts { OnOk result ((g : Group) → count_in counts.new g
+        ≡ (if is_group group g then count_in counts.old group + 1 else count_in counts.old g)) }
 {
     let number = count_in(counts, &group) + 1;
     counts.insert(group, number)?;

@@ -1,3 +1,6 @@
+ghost use Rattle.std.specs.Prelude.{All, IfOk, IfSome, length};
+ghost use Rattle.use_text.specs.Tokens.{IsWithin};
+
 use super::*;
 use std::test::Fail;
 use use_syntax::{Parsed, grammar, read_model};
@@ -9,12 +12,17 @@ use rows::{CONDITIONS, EMPLOYEES, MULTIPLICITIES, ROLES, Row, TYPES, UNBUILT};
 use shown::shown;
 use std::alloc::Global;
 
-fn read(alloc: Global, text: &str) -> Result<Option<Parsed>, Fail> {
+fn read(alloc: Global, text: &str) -> Result<Option<Parsed>, Fail>
+    ensures { IfOk result (λ o. IfSome o (λ p. All (IsWithin (length p.text)) p.tokens)) }
+{
     let g = grammar(alloc)?;
     if text.len() > 10_000 {
         return Ok(None);
     }
-    Ok(read_model(alloc, &g, text.as_bytes()).ok())
+    match read_model(alloc, &g, text.as_bytes()) {
+        Ok(parsed) => Ok(Some(parsed)),
+        Err(_) => Ok(None),
+    }
 }
 
 // What the model of a row declares, a line each.
@@ -65,14 +73,18 @@ fn conditions_stand_in_the_order_of_the_text_with_their_names(rt: HostRuntime) -
     Ok(())
 }
 
+// Whether a model has parts that are not built.
+fn is_unbuilt(alloc: Global, model: &str) -> Result<Option<bool>, Fail> {
+    match read(alloc, model)? {
+        None => Ok(None),
+        Some(parsed) => Ok(Some(has_unbuilt_parts(&decls(alloc, &parsed)?))),
+    }
+}
+
 #[test]
 fn models_with_expressions_have_unbuilt_parts(rt: HostRuntime) -> Result<(), Fail> {
     'models: for (model, want) in UNBUILT {
-        let Some(parsed) = read(rt.alloc(), model)? else {
-            assert!(rt; false);
-            return Ok(());
-        };
-        assert_eq!(rt; has_unbuilt_parts(&decls(rt.alloc(), &parsed)?), *want);
+        assert!(rt; is_unbuilt(rt.alloc(), model)? == Some(*want));
     }
     Ok(())
 }

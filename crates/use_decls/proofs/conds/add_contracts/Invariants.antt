@@ -7,6 +7,6 @@ abbrev pub invariant-nodes : goal.invariant-nodes
 invariant-nodes l = record {
   can : (goal.iterator-nodes).can_next l.node-iterator;
   ends : (goal.iterator-nodes).is_finite l.node-iterator;
-  so_far : l.found.items ++ filter_map (contract_part l.lexed l.class (op_at l.lexed l.oper)) l.node-iterator ≡ l.fn.found.items
-      ++ filter_map (contract_part l.lexed l.class (op_at l.lexed l.oper)) l.fn.nodes;
+  so_far : l.found.items ++ filter_map (contract_part l.lexed l.class (op_at l.lexed l.oper)) l.node-iterator
+      ≡ l.fn.found.items ++ filter_map (contract_part l.lexed l.class (op_at l.lexed l.oper)) l.fn.nodes;
 }

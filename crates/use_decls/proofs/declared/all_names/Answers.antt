@@ -1,4 +1,4 @@
-use Rattle.std.proofs.Common.{◌≡◌, ◌++◌, ◌∷◌, [], map, ap, sym, ◌∙◌}
+use Rattle.std.proofs.Common.{◌++◌, ◌∷◌, [], map, ap, sym, ◌∙◌}
 use Rattle.use_decls.specs.Names.{name_at}
 use Rattle.use_decls.proofs.Stepwise.{map_step}
 use Rattle.use_decls.proofs.declared.all_names.Goals as goal

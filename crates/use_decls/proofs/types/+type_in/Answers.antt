@@ -1,5 +1,5 @@
-use Rattle.std.proofs.Common.{◌≡◌, ◌-◌, [], ◌∷◌, ◌++◌, Some, IfOk, subst, sym, ap, ◌∙◌}
-use Rattle.use_decls.specs.Types.{kind_at, type_at, type_in, type_of_node}
+use Rattle.std.proofs.Common.{◌≡◌, ◌-◌, [], ◌∷◌, ◌++◌, IfOk, subst, sym, ap, ◌∙◌}
+use Rattle.use_decls.specs.Types.{type_at, type_in, type_of_node}
 use Rattle.use_decls.proofs.Nested.{one_deeper}
 use Rattle.use_decls.proofs.types.+type_in.Goals as goal
 
