@@ -1,0 +1,5 @@
+pub mod Ends
+pub mod Multiplicities
+pub mod Inheritance
+pub mod Features
+pub mod Conformance
