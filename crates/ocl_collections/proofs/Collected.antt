@@ -7,7 +7,7 @@ use Rattle.use_orders.proofs.Staying.{all_filter, all_common, firsts_filter, bag
 use Rattle.use_orders.proofs.Merged.{set_filter}
 use Rattle.ocl_values.specs.Order.{value_cmp}
 use Rattle.ocl_values.specs.Logic.{is_invalid}
-use Rattle.ocl_values.specs.Shape.{levels_of, most_levels, canonical, canon, some_invalid, IsWellMade}
+use Rattle.ocl_values.specs.Shape.{levels_of, most_levels, canonical, canon, some_invalid, IsWellMade, are_unfit, max_levels}
 use Rattle.ocl_values.specs.declared.value.Kind.{Kind}
 use Rattle.ocl_values.specs.declared.value.Kind.TheVariants.{Set, OrderedSet, Bag, Sequence}
 use Rattle.ocl_values.specs.declared.value.Value.{Value}
@@ -28,11 +28,11 @@ of_parts kind vs l all is = ap (Coll kind) is ∙ sym (canon_is kind vs all)
 -- one element more
 
 abbrev pub is_unfit : Value → Bool
-is_unfit x = is_invalid x || nat_le 256 (levels_of x)
+is_unfit x = is_invalid x || nat_le max_levels (levels_of x)
 
 pub part_of : (x : Value) → IsWellMade x → is_unfit x ≡ false → IsPart x
 part_of x well fit =
-    let split = neither (is_invalid x) (nat_le 256 (levels_of x)) fit in
+    let split = neither (is_invalid x) (nat_le max_levels (levels_of x)) fit in
     (well.tidy, split.0, low_from (levels_of x) split.1)
 
 pub added : (kind : Kind) (xs : List Value) (x : Value) (l : List Value) → IsWellMade (Coll kind xs) → IsWellMade x → is_unfit x ≡ false
@@ -57,17 +57,17 @@ levels_in (y ∷ xs) x ys =
     let rest = levels_in xs x ys in
     omega (arith, rest)
 
-deep_in : (xs : List Value) (x : Value) (ys : List Value) → nat_le 256 (levels_of x) ≡ true → nat_le 256 (most_levels (xs ++ x ∷ ys)) ≡ true
+deep_in : (xs : List Value) (x : Value) (ys : List Value) → nat_le max_levels (levels_of x) ≡ true → nat_le max_levels (most_levels (xs ++ x ∷ ys)) ≡ true
 deep_in xs x ys e =
     let within = levels_in xs x ys in
     grind (arith, within, e)
 
-unfit_in : (xs : List Value) (x : Value) (ys : List Value) → is_unfit x ≡ true → (some_invalid (xs ++ x ∷ ys) || nat_le 256 (most_levels (xs ++ x ∷ ys))) ≡ true
+unfit_in : (xs : List Value) (x : Value) (ys : List Value) → is_unfit x ≡ true → are_unfit (xs ++ x ∷ ys) ≡ true
 unfit_in xs x ys e =
     ⊎_elim
-    (λ i. ap (λ b. b || nat_le 256 (most_levels (xs ++ x ∷ ys))) (invalid_in xs x ys i))
+    (λ i. ap (λ b. b || nat_le max_levels (most_levels (xs ++ x ∷ ys))) (invalid_in xs x ys i))
     (λ d. ap (λ b. some_invalid (xs ++ x ∷ ys) || b) (deep_in xs x ys d) ∙ or_true (some_invalid (xs ++ x ∷ ys)))
-    (either (is_invalid x) (nat_le 256 (levels_of x)) e)
+    (either (is_invalid x) (nat_le max_levels (levels_of x)) e)
 
 pub none_with : (kind : Kind) (xs : List Value) (x : Value) (ys : List Value) → is_unfit x ≡ true → Invalid ≡ canon kind (xs ++ x ∷ ys)
 none_with kind xs x ys e = sym (ap (λ b. cond b Invalid (Coll kind (canonical kind (xs ++ x ∷ ys)))) (unfit_in xs x ys e))

@@ -1,10 +1,10 @@
 -- A collection of the leaves of values.
-use Rattle.std.proofs.Common.{◌≡◌, ◌≤◌, ◌||◌, ◌++◌, ◌+◌, nat_le, true, false, cond, List, [], ◌∷◌, refl, sym, ap, ◌∙◌, arith, append_assoc}
+use Rattle.std.proofs.Common.{◌≡◌, ◌≤◌, ◌++◌, ◌+◌, nat_le, true, false, cond, List, [], ◌∷◌, refl, sym, ap, ◌∙◌, arith, append_assoc}
 use Rattle.std.proofs.Common.{append-nil}
 use Rattle.std.specs.List.{AllByRecursion}
 use Rattle.use_orders.proofs.Spread.{bag_flat, set_flat, firsts_flat}
 use Rattle.ocl_values.specs.Logic.{is_invalid}
-use Rattle.ocl_values.specs.Shape.{size_of, sizes_of, most_levels, canonical, canon, some_invalid, IsTidy, AreTidy, IsWellMade}
+use Rattle.ocl_values.specs.Shape.{size_of, sizes_of, most_levels, canonical, canon, some_invalid, IsTidy, AreTidy, IsWellMade, are_unfit, max_levels}
 use Rattle.ocl_values.specs.declared.value.Kind.{Kind}
 use Rattle.ocl_values.specs.declared.value.Kind.TheVariants.{Set, OrderedSet, Bag, Sequence}
 use Rattle.ocl_values.specs.declared.value.Value.{Value, Row_of-Value, end_of-Value, more_of-Value, items-the_row-Value}
@@ -79,26 +79,26 @@ flattened_is kind vs l well is = of_parts kind (all_leaves vs) l (all_leaves_fit
 
 -- of what `make` makes
 
-pub none_flattened : (kind : Kind) (vs : List Value) → (some_invalid vs || nat_le 256 (most_levels vs)) ≡ true
+pub none_flattened : (kind : Kind) (vs : List Value) → are_unfit vs ≡ true
     → Invalid ≡ coll_op_value Flatten (canon kind vs) []
 none_flattened kind vs e = sym (ap (λ b. coll_op_value Flatten (cond b Invalid (Coll kind (canonical kind vs))) []) e)
 
 of_made : (kind : Kind) (vs : List Value) → AllByRecursion IsPart vs → coll_op_value Flatten (canon kind vs) [] ≡ flattened kind (canonical kind vs)
 of_made kind vs all = sym (found (canon kind vs) kind (canonical kind vs) (canonical kind vs) (of_collection Flatten []) (canon_is kind vs all) refl)
 
-pub made_flattened : (kind : Kind) (vs l : List Value) → AllByRecursion IsWellMade vs → (some_invalid vs || nat_le 256 (most_levels vs)) ≡ false
+pub made_flattened : (kind : Kind) (vs l : List Value) → AllByRecursion IsWellMade vs → are_unfit vs ≡ false
     → l ≡ canonical kind (all_leaves vs)
     → Coll kind l ≡ coll_op_value Flatten (canon kind vs) []
 made_flattened kind vs l well fit is =
-    let split = neither (some_invalid vs) (nat_le 256 (most_levels vs)) fit in
+    let split = neither (some_invalid vs) (nat_le max_levels (most_levels vs)) fit in
     let all = parts vs well split.0 (low_from (most_levels vs) split.1) in
     let elements = all_kept kind IsPart vs all in
     of_parts kind (all_leaves (canonical kind vs)) l (all_leaves_fit (canonical kind vs) elements) (is ∙ sym (same_leaves kind vs)) ∙ sym (of_made kind vs all)
 
-pub made_flattened_well : (kind : Kind) (vs l : List Value) → AllByRecursion IsWellMade vs → (some_invalid vs || nat_le 256 (most_levels vs)) ≡ false
+pub made_flattened_well : (kind : Kind) (vs l : List Value) → AllByRecursion IsWellMade vs → are_unfit vs ≡ false
     → l ≡ canonical kind (all_leaves vs) → IsWellMade (Coll kind l)
 made_flattened_well kind vs l well fit is =
-    let split = neither (some_invalid vs) (nat_le 256 (most_levels vs)) fit in
+    let split = neither (some_invalid vs) (nat_le max_levels (most_levels vs)) fit in
     parts_well kind (all_leaves vs) l (all_leaves_fit vs (parts vs well split.0 (low_from (most_levels vs) split.1))) is
 
 -- the same of elements that a collection has

@@ -11,7 +11,7 @@ use Rattle.ocl_values.specs.declared.value.Kind.TheVariants.{Set, OrderedSet, Ba
 use Rattle.ocl_values.specs.declared.value.Value.{Value}
 use Rattle.ocl_values.specs.declared.value.Value.TheVariants.{Coll, Invalid}
 use Rattle.ocl_values.specs.Logic.{is_invalid}
-use Rattle.ocl_values.specs.Shape.{most_levels, canonical, canon, some_invalid, IsTidy, IsWellMade}
+use Rattle.ocl_values.specs.Shape.{most_levels, canonical, canon, some_invalid, IsTidy, IsWellMade, are_unfit, max_levels}
 use Rattle.ocl_values.proofs.Exact.{value_exact, value_total}
 use Rattle.ocl_values.proofs.Rows.{levels_of-Coll, tidy_Coll}
 use Rattle.ocl_values.proofs.Elements.{IsPart, neither, parts_of}
@@ -63,29 +63,29 @@ parts_well kind vs l all is =
 pub well_Invalid : IsWellMade Invalid
 well_Invalid = record { tidy = tt; levels = omega arith }
 
-pub low_from : (n : ℕ) → nat_le 256 n ≡ false → n ≤ 255
+pub low_from : (n : ℕ) → nat_le max_levels n ≡ false → n ≤ 255
 low_from n e = grind (arith, e)
 
 -- a collection of well-made values, as `canon` makes it
 pub well_canon : (kind : Kind) (vs : List Value) → AllByRecursion IsWellMade vs → IsWellMade (canon kind vs)
 well_canon kind vs all =
-    cond_both (some_invalid vs || nat_le 256 (most_levels vs)) Invalid (Coll kind (canonical kind vs)) IsWellMade
+    cond_both (are_unfit vs) Invalid (Coll kind (canonical kind vs)) IsWellMade
     (λ _. well_Invalid)
     (λ e.
-    let split = neither (some_invalid vs) (nat_le 256 (most_levels vs)) e in
+    let split = neither (some_invalid vs) (nat_le max_levels (most_levels vs)) e in
     parts_well kind vs (canonical kind vs) (parts vs all split.0 (low_from (most_levels vs) split.1)) refl)
 
-pub made_well : (kind : Kind) (vs l : List Value) → AllByRecursion IsWellMade vs → (some_invalid vs || nat_le 256 (most_levels vs)) ≡ false
+pub made_well : (kind : Kind) (vs l : List Value) → AllByRecursion IsWellMade vs → are_unfit vs ≡ false
     → l ≡ canonical kind vs → IsWellMade (Coll kind l)
 made_well kind vs l all fit is =
-    let split = neither (some_invalid vs) (nat_le 256 (most_levels vs)) fit in
+    let split = neither (some_invalid vs) (nat_le max_levels (most_levels vs)) fit in
     parts_well kind vs l (parts vs all split.0 (low_from (most_levels vs) split.1)) is
 
 -- where all are parts, `canon` makes a collection
 pub canon_is : (kind : Kind) (vs : List Value) → AllByRecursion IsPart vs → canon kind vs ≡ Coll kind (canonical kind vs)
 canon_is kind vs all =
     let deep = none_deep vs all in
-    let low : nat_le 256 (most_levels vs) ≡ false = grind (arith, deep) in
+    let low : nat_le max_levels (most_levels vs) ≡ false = grind (arith, deep) in
     ap₂ (λ a b. cond (a || b) Invalid (Coll kind (canonical kind vs))) (none_invalid vs all) low
 
 -- a well-made collection is what `canon` makes of its elements

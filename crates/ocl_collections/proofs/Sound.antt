@@ -18,7 +18,7 @@ use Rattle.ocl_values.specs.declared.value.Value.TheVariants.{Null, Invalid, Int
 use Rattle.ocl_values.specs.declared.integer.IntOp.{IntOp}
 use Rattle.ocl_values.specs.declared.integer.IntOp.TheVariants as I
 use Rattle.ocl_values.specs.Integers.{in_range, int_value, quotient, remainder, of_one as int_of_one, of_two as int_of_two, of_integer, int_op_value}
-use Rattle.ocl_values.specs.Shape.{row_levels, canon, some_invalid, AreTidy, IsWellMade}
+use Rattle.ocl_values.specs.Shape.{row_levels, canon, some_invalid, AreTidy, IsWellMade, max_levels}
 use Rattle.ocl_collections.specs.declared.op.CollOp.{CollOp}
 use Rattle.ocl_collections.specs.declared.op.CollOp.TheVariants as C
 use Rattle.ocl_collections.specs.Arguments.{with_integer, with_collection}
@@ -273,7 +273,7 @@ well_with_integer : (v : Value) (f : ℤ → Value) → ((n : ℤ) → IsWellMad
 well_with_integer (Int n) f well = well n
 well_with_integer _ f well = well_Invalid
 
-row_wells : {m : _} (row : Row_of-Value m) → AreTidy row → some_invalid (items-the_row-Value m row) ≡ false → 1 + row_levels row ≤ 256
+row_wells : {m : _} (row : Row_of-Value m) → AreTidy row → some_invalid (items-the_row-Value m row) ≡ false → 1 + row_levels row ≤ max_levels
     → Wells (items-the_row-Value m row)
 row_wells {m} row tidy none low =
     let same = levels_row m row in
@@ -319,7 +319,8 @@ pub well_op : (op : CollOp) (source : Value) (args : List Value) → IsWellMade 
 well_op op source args well given =
     cond_both (some_invalid args) Invalid (with_collection source (of_collection op args)) IsWellMade
     (λ _. well_Invalid)
-    (λ _. well_with_collection source (of_collection op args) well (λ kind all each. well_of_collection op args kind all (recursion_from_All IsWellMade args given) each))
+    (λ _. well_with_collection source (of_collection op args) well
+    (λ kind all each. well_of_collection op args kind all (recursion_from_All IsWellMade args given) each))
 
 -- the same where a match found the elements
 pub well_given : (op : CollOp) (args : List Value) (kind : Kind) (all : List Value) → IsWellMade (Coll kind all) → All IsWellMade args

@@ -1,12 +1,15 @@
 ghost use Rattle.std.specs.Prelude.{◌≡◌, ◌+◌, min, max};
-ghost use Rattle.ocl_values.specs.Shape.{levels_of, most_levels};
+ghost use Rattle.ocl_values.specs.Shape.{levels_of, max_levels, most_levels};
 
 use ocl_values::Value;
 
-// How deep collections nest in a value, up to 257.
+// How deep collections may nest.
+pub(crate) const MAX_LEVELS: u32 = 256;
+
+// How deep collections nest in a value; past the limit, one more than it.
 #[cycle(levels)]
 pub(crate) fn levels(v: &Value) -> u32
-    ensures { result ≡ min (levels_of v.now) 257 }
+    ensures { result ≡ min (levels_of v.now) (max_levels + 1) }
 {
     match v {
         Value::Coll(_, items) => one_more(most(items.as_slice())),
@@ -15,15 +18,19 @@ pub(crate) fn levels(v: &Value) -> u32
 }
 
 fn one_more(n: u32) -> u32
-    ensures { result ≡ min (1 + n) 257 }
+    ensures { result ≡ min (1 + n) (max_levels + 1) }
 {
-    if n < 256 { n + 1 } else { 257 }
+    if n < MAX_LEVELS {
+        n + 1
+    } else {
+        MAX_LEVELS + 1
+    }
 }
 
-// How deep collections nest in some values, up to 257.
+// How deep collections nest in some values; past the limit, one more than it.
 #[cycle(levels)]
 pub(crate) fn most(all: &[Value]) -> u32
-    ensures { result ≡ min (most_levels all.now) 257 }
+    ensures { result ≡ min (most_levels all.now) (max_levels + 1) }
 {
     let mut deepest = 0;
     'look: for v in all {

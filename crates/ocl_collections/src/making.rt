@@ -1,9 +1,9 @@
 ghost use Rattle.std.specs.Prelude.{◌≡◌, ◌||◌, All, IfOk, nat_le};
 ghost use Rattle.ocl_values.specs.Logic.{is_invalid};
-ghost use Rattle.ocl_values.specs.Shape.{canon, canonical, IsWellMade, levels_of, most_levels, some_invalid};
+ghost use Rattle.ocl_values.specs.Shape.{are_unfit, canon, canonical, IsWellMade, levels_of, max_levels, some_invalid};
 ghost use Rattle.ocl_values.specs.declared.value.Value.TheVariants.{Coll};
 
-use crate::depth::{levels, most};
+use crate::depth::{MAX_LEVELS, levels, most};
 use ocl_values::{Kind, Value};
 use std::alloc::{AllocError, Global};
 use use_lists::Items;
@@ -21,9 +21,9 @@ pub(crate) fn any_invalid(all: &[Value]) -> bool
 
 // Whether no collection holds x: it is invalid, or the collection would nest more than 256 deep.
 pub(crate) fn is_unfit(x: &Value) -> bool
-    ensures { result ≡ (is_invalid x.now || nat_le 256 (levels_of x.now)) }
+    ensures { result ≡ (is_invalid x.now || nat_le max_levels (levels_of x.now)) }
 {
-    x.is_invalid() || levels(x) >= 256
+    x.is_invalid() || levels(x) >= MAX_LEVELS
 }
 
 // The elements as the kind keeps them.
@@ -51,9 +51,9 @@ pub(crate) fn collection(kind: Kind, items: Vec<Value>) -> Value
 
 // Whether no collection holds the items.
 pub(crate) fn are_unfit(items: &[Value]) -> bool
-    ensures { result ≡ (some_invalid items.now || nat_le 256 (most_levels items.now)) }
+    ensures { result ≡ are_unfit items.now }
 {
-    any_invalid(items) || most(items) >= 256
+    any_invalid(items) || most(items) >= MAX_LEVELS
 }
 
 /// The collection of the items: invalid if an item is, or if it would nest more than 256 deep.

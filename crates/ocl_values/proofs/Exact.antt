@@ -174,7 +174,8 @@ Same a = (b : Value) → value_cmp a b ≡ Equal → a ≡ b
 pub value_exact : IsAntisymmetric value_cmp
 value_exact = F.ind-Value Same (λ x y is b e.
     let whole = sym (cmp_is (roll-Value x) b) ∙ e in
-    let here : layer value_cmp (F.map-Value _ Value (λ v. v.0) y) (out-Value b) ≡ Equal = subst (λ l. layer value_cmp l (out-Value b) ≡ Equal) (out-roll-Value x ∙ sym is) whole in
+    let here : layer value_cmp (F.map-Value _ Value (λ v. v.0) y) (out-Value b) ≡ Equal =
+    subst (λ l. layer value_cmp l (out-Value b) ≡ Equal) (out-roll-Value x ∙ sym is) whole in
     ap roll-Value (sym is ∙ layers_same (λ v. v.0) value_cmp (λ v. v.1) y (out-Value b) here) ∙ roll-out-Value b)
 
 -- the order of values is total

@@ -72,7 +72,8 @@ module _ (s t : List ℕ) (u : IsUtf8 s) (v : IsUtf8 t) where
       let parts : front ≡ encode_utf8_all fs ++ encode_utf8_all gs =
       sym (encodes-chars front (IsUtf8-take s at u cut)) ∙ ap encode_utf8_all e ∙ encodes-append fs gs in
       let long = length-le-encodes gs in
-      let lengths : length front ≡ length (encode_utf8_all fs) + length (encode_utf8_all gs) = ap length parts ∙ length-append (encode_utf8_all fs) (encode_utf8_all gs) in
+      let lengths : length front ≡ length (encode_utf8_all fs) + length (encode_utf8_all gs) =
+      ap length parts ∙ length-append (encode_utf8_all fs) (encode_utf8_all gs) in
       let size : length front ≡ at = length-take-le at s cut.0 in
       lacking s t fs (gs ++ chars back) v bytes (before (length (encode_utf8_all fs)) (omega (arith, long, lengths, size, some)))))
 
@@ -80,5 +81,6 @@ module _ (s t : List ℕ) (u : IsUtf8 s) (v : IsUtf8 t) where
   pub found_nowhere : ((i : ℕ) → i ≤ length s → LacksTextAt t s i) → 0 ≡ index_of (chars t) (chars s)
   found_nowhere never = sym (index_none (chars t) (chars s) (λ fs gs e.
       let bytes : s ≡ encode_utf8_all (fs ++ gs) = sym (encodes-chars s u) ∙ ap encode_utf8_all e in
-      let lengths : length s ≡ length (encode_utf8_all fs) + length (encode_utf8_all gs) = ap length (bytes ∙ encodes-append fs gs) ∙ length-append (encode_utf8_all fs) (encode_utf8_all gs) in
+      let lengths : length s ≡ length (encode_utf8_all fs) + length (encode_utf8_all gs) =
+      ap length (bytes ∙ encodes-append fs gs) ∙ length-append (encode_utf8_all fs) (encode_utf8_all gs) in
       lacking s t fs gs v bytes (never (length (encode_utf8_all fs)) (omega (arith, lengths)))))

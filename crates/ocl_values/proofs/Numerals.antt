@@ -92,7 +92,8 @@ plain r cs h plus minus =
     (λ p. (parts_numeral cs p.0 p.1, fits (number_of cs) p.2))
 
 split_at : (c : ℕ) (b : Bool) → (c == 45) ≡ b → {E : Type 0} (r : Result ℤ E) (cs : List ℕ) → ParsesSigned w128 10 (c ∷ cs) r → c ≢ 43
-    → checked (result_ok r) ≡ (if b then (if is_numeral cs then int_value (neg_ℤ (pos (number_of cs))) else Invalid) else (if is_numeral (c ∷ cs) then int_value (pos (number_of (c ∷ cs))) else Invalid))
+    → checked (result_ok r) ≡ (if b then (if is_numeral cs then int_value (neg_ℤ (pos (number_of cs))) else Invalid)
+    else (if is_numeral (c ∷ cs) then int_value (pos (number_of (c ∷ cs))) else Invalid))
 split_at c true e r cs h plus =
     let is : c ≡ 45 = grind (arith, nat_tests) in
     after_minus r cs (subst (λ d. ParsesSigned w128 10 (d ∷ cs) r) is h)
@@ -123,7 +124,8 @@ writes_ascii [] e = absurd (true≢false (sym e))
 writes_ascii (c ∷ cs) e = one_ascii c cs (c == 45) refl e
 
 one_other : (c : ℕ) (cs : List ℕ) (b : Bool) → (if b then is_numeral cs else is_numeral (c ∷ cs)) ≡ false
-    → (if b then (if is_numeral cs then int_value (neg_ℤ (pos (number_of cs))) else Invalid) else (if is_numeral (c ∷ cs) then int_value (pos (number_of (c ∷ cs))) else Invalid)) ≡ Invalid
+    → (if b then (if is_numeral cs then int_value (neg_ℤ (pos (number_of cs))) else Invalid)
+    else (if is_numeral (c ∷ cs) then int_value (pos (number_of (c ∷ cs))) else Invalid)) ≡ Invalid
 one_other c cs true e = ap (λ t. if t then int_value (neg_ℤ (pos (number_of cs))) else Invalid) e
 one_other c cs false e = ap (λ t. if t then int_value (pos (number_of (c ∷ cs))) else Invalid) e
 

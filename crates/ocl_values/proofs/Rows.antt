@@ -52,8 +52,11 @@ pub record IsRow (kind : Kind) (all : List Value) : Type 0 where
 pub tidy_Coll : (kind : Kind) (all : List Value) → IsRow kind all → IsTidy (Coll kind all)
 tidy_Coll kind all is =
     let row = row_of (Coll kind all) in
-    let same = items_hidden-the_row-Value-0 all in
-    (subst (λ l. canonical kind l ≡ l) (sym same) is.kept, subst (λ l. some_invalid l ≡ false) (sym same) is.none, tidy_row row.0 row.1 (subst (AllByRecursion IsTidy) (sym same) is.each))
+    let same = items_hidden-the_row-Value-0 all in (
+      subst (λ l. canonical kind l ≡ l) (sym same) is.kept,
+      subst (λ l. some_invalid l ≡ false) (sym same) is.none,
+      tidy_row row.0 row.1 (subst (AllByRecursion IsTidy) (sym same) is.each),
+    )
 
 pub row_of_tidy : (kind : Kind) (all : List Value) → IsTidy (Coll kind all) → IsRow kind all
 row_of_tidy kind all tidy =

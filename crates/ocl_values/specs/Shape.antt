@@ -63,9 +63,17 @@ abbrev pub some_invalid : List Value → Bool
 some_invalid [] = false
 some_invalid (v ∷ vs) = is_invalid v || some_invalid vs
 
--- the collection that a list makes: invalid where an element is, or where it would nest more than 256 deep
+-- how deep collections may nest
+abbrev pub max_levels : ℕ
+max_levels = 256
+
+-- no collection holds these: one is invalid, or the collection would nest too deep
+abbrev pub are_unfit : List Value → Bool
+are_unfit vs = some_invalid vs || nat_le max_levels (most_levels vs)
+
+-- the collection that a list makes, or invalid where none holds its elements
 abbrev pub canon : Kind → List Value → Value
-canon kind vs = cond (some_invalid vs || nat_le 256 (most_levels vs)) Invalid (Coll kind (canonical kind vs))
+canon kind vs = cond (are_unfit vs) Invalid (Coll kind (canonical kind vs))
 
 abbrev mutual
   -- each collection in the value is as its kind keeps it, and holds no invalid
@@ -84,10 +92,10 @@ abbrev mutual
   AreTidy end_of-Value = Unit {0}
   AreTidy (more_of-Value v rest) = IsTidy v × AreTidy rest
 
--- a value that evaluation can give: tidy, with at most 256 collections in one another
+-- a value that evaluation can give: tidy, with collections that nest no deeper than they may
 pub record IsWellMade (v : Value) : Type 0 where
   pub tidy : IsTidy v
-  pub levels : levels_of v ≤ 256
+  pub levels : levels_of v ≤ max_levels
 
 -- the elements of a collection
 abbrev pub elements : Value → List Value

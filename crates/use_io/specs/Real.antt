@@ -13,6 +13,6 @@ pub record Flushed (T : Type 0) : Type 0 where
   pub faults : ℕ
   pub refused : ℕ
 
--- the bytes that were accepted, of those that a writer tells
-abbrev pub accepted : Option (List ℕ) → ℕ → Option (List ℕ)
-accepted contents refused = option_map (λ bytes. take (length bytes - refused) bytes) contents
+-- the bytes that were accepted, of those that a writer tells, by what tells the bytes that it holds
+abbrev pub accepted : {T : Type 0} → (T → Option (List ℕ)) → Flushed T → Option (List ℕ)
+accepted contents s = option_map (λ bytes. take (length bytes - s.refused) bytes) (contents s.inner)

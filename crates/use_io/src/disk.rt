@@ -41,6 +41,9 @@ impl<'a, R: Files> DiskShelf<'a, R> {
     }
 }
 
+// How many bytes of a file are read at once.
+const PIECE: usize = 4096;
+
 // All that a reader has left, where it is at most so many bytes.
 pub(crate) fn read_within<T: Read + Drop>(
     alloc: Global,
@@ -53,7 +56,7 @@ pub(crate) fn read_within<T: Read + Drop>(
     ensures never_missing { ¬ IsErrOf result ShelfFault.Missing }
 {
     let mut bytes = Vec::new(alloc);
-    let mut piece = [0u8; 4096];
+    let mut piece = [0u8; PIECE];
     'pieces: loop {
         let Ok(count) = reader.read(&mut piece) else {
             return Err(ShelfFault::Failed);

@@ -88,8 +88,8 @@ impl<T: Write + Drop> StdOut<T> {
     fn write_through(&mut self, bytes: &[u8]) -> Option<usize>
         ensures bound { IfSome result (λ n. n ≤ length bytes.now) }
         ensures progress { IfSome result (λ n. n ≡ 0 → bytes.now ≡ []) }
-        ensures some { IfSome result (λ n. Appends (accepted (T.contents self.old.inner) self.old.refused) (accepted (T.contents self.new.inner) self.new.refused) (take n bytes.now)) }
-        ensures none { IfNone result (Keeps (accepted (T.contents self.old.inner) self.old.refused) (accepted (T.contents self.new.inner) self.new.refused)) }
+        ensures some { IfSome result (λ n. Appends (accepted T.contents self.old) (accepted T.contents self.new) (take n bytes.now)) }
+        ensures none { IfNone result (Keeps (accepted T.contents self.old) (accepted T.contents self.new)) }
         ensures faults { self.new.faults ≡ self.old.faults }
     {
         if self.refused > 0 {
@@ -108,14 +108,14 @@ impl<T: Write + Drop> StdOut<T> {
 }
 
 impl<T: Write + Drop> Sink for StdOut<T> {
-    ghost written = { λ s. accepted (T.contents s.inner) s.refused };
+    ghost written = { accepted T.contents };
 
     ghost faults = { λ s. s.faults };
 
     fn put(&mut self, bytes: &[u8]) -> Result<usize, SinkFault>
         ensures bound { WritesAtMost result bytes.now }
         ensures progress { IfOk result (λ n. n ≡ 0 → bytes.now ≡ []) }
-        ensures bytes { WriteAppends (accepted (T.contents self.old.inner) self.old.refused) (accepted (T.contents self.new.inner) self.new.refused) result bytes.now }
+        ensures bytes { WriteAppends (accepted T.contents self.old) (accepted T.contents self.new) result bytes.now }
         ensures cause { HasSinkCause self.old.faults self.new.faults result }
         ensures never_memory { ¬ IsErrOf result SinkFault.Memory }
     {

@@ -66,7 +66,8 @@ some_next kind (t ∷ ts) e = here (is_token kind t) e (some_next kind ts)
     first [] h = absurd (cc)
     first (u ∷ us) h = refl
 
-    here : (b : Bool) → ((both b (is_filled ts)) || has_followed (is_token kind) ts) ≡ true → (has_followed (is_token kind) ts ≡ true → is_some (next_to kind ts) ≡ true) → is_some (if b then slice_get ts 0 else next_to kind ts) ≡ true
+    here : (b : Bool) → ((both b (is_filled ts)) || has_followed (is_token kind) ts) ≡ true
+        → (has_followed (is_token kind) ts ≡ true → is_some (next_to kind ts) ≡ true) → is_some (if b then slice_get ts 0 else next_to kind ts) ≡ true
     here true h later = first ts h
     here false h later = later h
 
@@ -74,7 +75,8 @@ pub some_sought : (sort : ParseTree → Bool) (ts : List ParseTree) → has_one 
 some_sought sort [] e = absurd (cc)
 some_sought sort (t ∷ ts) e = here (sort t) e (some_sought sort ts)
   where
-    here : (b : Bool) → (b || has_one sort ts) ≡ true → (has_one sort ts ≡ true → is_some (slice_get (filter sort ts) 0) ≡ true) → is_some (slice_get (if b then t ∷ filter sort ts else filter sort ts) 0) ≡ true
+    here : (b : Bool) → (b || has_one sort ts) ≡ true → (has_one sort ts ≡ true → is_some (slice_get (filter sort ts) 0) ≡ true)
+        → is_some (slice_get (if b then t ∷ filter sort ts else filter sort ts) 0) ≡ true
     here true h later = refl
     here false h later = later h
 
@@ -100,18 +102,28 @@ all_accepted : accepts_all language all_rules ≡ true
 unfolding token_prods call_prods type_prods expression_prods statement_prods command_prods model_prods all_prods bodies language
 all_accepted = refl
 
-accepted_at : (g : Table) (rules : List Rule) → accepts_all g rules ≡ true → (i : ℕ) (rule : Rule) → slice_get rules i ≡ Some rule → accepts g (needs rule) (number_of_rule rule) ≡ true
+accepted_at : (g : Table) (rules : List Rule) → accepts_all g rules ≡ true → (i : ℕ) (rule : Rule)
+    → slice_get rules i ≡ Some rule → accepts g (needs rule) (number_of_rule rule) ≡ true
 accepted_at g [] e i rule at = absurd (cc)
-accepted_at g (x ∷ xs) e zero rule at = let same : x ≡ rule = cc in subst (λ (y : Rule). accepts g (needs y) (number_of_rule y) ≡ true) same (both_left (accepts g (needs x) (number_of_rule x)) (accepts_all g xs) e)
+accepted_at g (x ∷ xs) e zero rule at = let same : x ≡ rule = cc in
+    subst (λ (y : Rule). accepts g (needs y) (number_of_rule y) ≡ true) same (both_left (accepts g (needs x) (number_of_rule x)) (accepts_all g xs) e)
 accepted_at g (x ∷ xs) e (suc i) rule at = accepted_at g xs (both_right (accepts g (needs x) (number_of_rule x)) (accepts_all g xs) e) i rule at
 
-accepted_met : (g : Table) (ks : List ℕ) (more : List Need) (n p level at to : ℕ) (trees : List ParseTree) → slice_get g.rules n ≡ Some p → Gives g ks p level at (Outcome.ends to trees) → accepts g more n ≡ true → are_met more trees ≡ true
+accepted_met : (g : Table) (ks : List ℕ) (more : List Need) (n p level at to : ℕ) (trees : List ParseTree)
+    → slice_get g.rules n ≡ Some p → Gives g ks p level at (Outcome.ends to trees) → accepts g more n ≡ true → are_met more trees ≡ true
 accepted_met g ks [] n p level at to trees is of e = refl
 accepted_met g ks (need ∷ more) n p level at to trees is of e =
-    let enough : is_enough need (sure_at (sort_of need) g 6 p) ≡ true = subst (λ (o : Option ℕ). is_enough need (sure_rule (sort_of need) g o) ≡ true) is (both_left (is_enough need (sure_rule (sort_of need) g (slice_get g.rules n))) (accepts g more n) e) in
+    let enough : is_enough need (sure_at (sort_of need) g 6 p) ≡ true =
+    subst (λ (o : Option ℕ). is_enough need (sure_rule (sort_of need) g o) ≡ true) is
+    (both_left (is_enough need (sure_rule (sort_of need) g (slice_get g.rules n))) (accepts g more n) e) in
     let holds = sure_sound (sort_of need) g (sort_of_token need) (sort_of_rule need) ks 6 p level at (Outcome.ends to trees) of in
-    both_of (is_met need trees) (are_met more trees) (enough_met need (sure_at (sort_of need) g 6 p) trees holds enough) (accepted_met g ks more n p level at to trees is of (both_right (is_enough need (sure_rule (sort_of need) g (slice_get g.rules n))) (accepts g more n) e))
+    both_of (is_met need trees) (are_met more trees) (enough_met need (sure_at (sort_of need) g 6 p) trees holds enough)
+    (accepted_met g ks more n p level at to trees is of
+    (both_right (is_enough need (sure_rule (sort_of need) g (slice_get g.rules n))) (accepts g more n) e))
 
 -- what the production of a rule gives has the parts that the rule requires
-pub rule_met : (ks : List ℕ) (rule : Rule) (p level at to : ℕ) (trees : List ParseTree) → slice_get language.rules (number_of_rule rule) ≡ Some p → Gives language ks p level at (Outcome.ends to trees) → are_met (needs rule) trees ≡ true
-rule_met ks rule p level at to trees is of = accepted_met language ks (needs rule) (number_of_rule rule) p level at to trees is of (accepted_at language all_rules all_accepted (number_of_rule rule) rule (rule_there rule))
+pub rule_met : (ks : List ℕ) (rule : Rule) (p level at to : ℕ) (trees : List ParseTree)
+    → slice_get language.rules (number_of_rule rule) ≡ Some p → Gives language ks p level at (Outcome.ends to trees) → are_met (needs rule) trees ≡ true
+rule_met ks rule p level at to trees is of =
+    accepted_met language ks (needs rule) (number_of_rule rule) p level at to trees is of
+    (accepted_at language all_rules all_accepted (number_of_rule rule) rule (rule_there rule))

@@ -96,12 +96,14 @@ module _ (D : Type 0) (IsTrueOf : D → List ParseTree → Type 0) (way : Way D 
     module _ (one : ℕ → D) (sound : (q level at : ℕ) (a : Outcome) → Gives g ks q level at a → IsTrueOfAll (one q) a) where
       all_known : (ps : List ℕ) (level at : ℕ) (a : Outcome) → GivesAll g ks ps level at a → IsTrueOfAll (all_in_turn one ps) a
       all_known _ _ _ _ (GivesAll.all_done level at) = way.none_true
-      all_known _ _ _ _ (GivesAll.then p ps level at to trees a of all) = then_known (one p) (all_in_turn one ps) trees a (sound p level at (Outcome.ends to trees) of) (all_known ps level to a all)
+      all_known _ _ _ _ (GivesAll.then p ps level at to trees a of all) =
+          then_known (one p) (all_in_turn one ps) trees a (sound p level at (Outcome.ends to trees) of) (all_known ps level to a all)
       all_known _ _ _ _ (GivesAll.stop p ps level at a of s) = stop_known (all_in_turn one (p ∷ ps)) a s
 
       times_known : (firsts : List ℕ) (q level at : ℕ) (a : Outcome) → GivesTimes g ks firsts q level at a → IsTrueOfAll (way.often (one q)) a
       times_known _ _ _ _ _ (GivesTimes.no_more firsts q level at e) = way.never_true (one q)
-      times_known _ _ _ _ _ (GivesTimes.once_more firsts q level at to trees a e of all) = more_known (one q) trees a (sound q level at (Outcome.ends to trees) of) (times_known firsts q level to a all)
+      times_known _ _ _ _ _ (GivesTimes.once_more firsts q level at to trees a e of all) =
+          more_known (one q) trees a (sound q level at (Outcome.ends to trees) of) (times_known firsts q level to a all)
       times_known _ _ _ _ _ (GivesTimes.stop_in firsts q level at a e of s) = stop_known (way.often (one q)) a s
 
       prod_known : (x : Prod) (level at : ℕ) (a : Outcome) → GivesProd g ks x level at a → IsTrueOfAll (of_prod one (Some x)) a
@@ -110,12 +112,14 @@ module _ (D : Type 0) (IsTrueOf : D → List ParseTree → Type 0) (way : Way D 
       prod_known _ _ _ _ (GivesProd.rule r rule level inner at a e f of) = below_known r a
       prod_known _ _ _ _ (GivesProd.too_deep r rule level at e f) = tt
       prod_known _ _ _ _ (GivesProd.parts ps level at a all) = all_known ps level at a all
-      prod_known _ _ _ _ (GivesProd.branch bs other q level at a e of) = chosen_known one (choices bs other) q (branch_in ks at q bs other e) a (sound q level at a of)
+      prod_known _ _ _ _ (GivesProd.branch bs other q level at a e of) =
+          chosen_known one (choices bs other) q (branch_in ks at q bs other e) a (sound q level at a of)
       prod_known _ _ _ _ (GivesProd.no_branch bs other level at e) = tt
       prod_known _ _ _ _ (GivesProd.times firsts q level at a all) = times_known firsts q level at a all
 
       here_known : (p level at : ℕ) (a : Outcome) → Gives g ks p level at a → IsTrueOfAll (of_prod one (slice_get g.prods p)) a
-      here_known _ _ _ _ (Gives.production p level at x a e of) = subst (λ (o : Option Prod). IsTrueOfAll (of_prod one o) a) (sym e) (prod_known x level at a of)
+      here_known _ _ _ _ (Gives.production p level at x a e of) =
+          subst (λ (o : Option Prod). IsTrueOfAll (of_prod one o) a) (sym e) (prod_known x level at a of)
 
     known_sound : (n p level at : ℕ) (a : Outcome) → Gives g ks p level at a → IsTrueOfAll (known_at n p) a
     known_sound zero p level at (Outcome.ends to trees) of = way.nothing_true trees

@@ -95,7 +95,12 @@ needs r.Constraints = []
 
 -- the rules in the order of their numbers
 abbrev pub all_rules : List Rule
-all_rules = r.File ∷ r.Command ∷ r.Names ∷ r.Type ∷ r.Item ∷ r.Args ∷ r.Part ∷ r.Collection ∷ r.Named ∷ r.Literal ∷ r.Group ∷ r.Choice ∷ r.Primary ∷ r.Dot ∷ r.Arrow ∷ r.Postfix ∷ r.Bind ∷ r.Let ∷ r.Unary ∷ r.Muls ∷ r.Sums ∷ r.Rels ∷ r.Eqs ∷ r.Ands ∷ r.Ors ∷ r.Xors ∷ r.Expr ∷ r.Block ∷ r.New ∷ r.Rhs ∷ r.Create ∷ r.Set ∷ r.Destroy ∷ r.Insert ∷ r.Delete ∷ r.Declare ∷ r.Branch ∷ r.For ∷ r.While ∷ r.Assign ∷ r.Stmt ∷ r.Enter ∷ r.Exit ∷ r.Execute ∷ r.Query ∷ r.Check ∷ r.Info ∷ r.View ∷ r.Enum ∷ r.Param ∷ r.Params ∷ r.Head ∷ r.Cond ∷ r.Inv ∷ r.Oper ∷ r.Attribute ∷ r.Parents ∷ r.Class ∷ r.Mult ∷ r.AssocEnd ∷ r.Assoc ∷ r.Context ∷ r.Constraints ∷ []
+all_rules = r.File ∷ r.Command ∷ r.Names ∷ r.Type ∷ r.Item ∷ r.Args ∷ r.Part ∷ r.Collection ∷ r.Named
+    ∷ r.Literal ∷ r.Group ∷ r.Choice ∷ r.Primary ∷ r.Dot ∷ r.Arrow ∷ r.Postfix ∷ r.Bind ∷ r.Let
+    ∷ r.Unary ∷ r.Muls ∷ r.Sums ∷ r.Rels ∷ r.Eqs ∷ r.Ands ∷ r.Ors ∷ r.Xors ∷ r.Expr ∷ r.Block ∷ r.New
+    ∷ r.Rhs ∷ r.Create ∷ r.Set ∷ r.Destroy ∷ r.Insert ∷ r.Delete ∷ r.Declare ∷ r.Branch ∷ r.For
+    ∷ r.While ∷ r.Assign ∷ r.Stmt ∷ r.Enter ∷ r.Exit ∷ r.Execute ∷ r.Query ∷ r.Check ∷ r.Info ∷ r.View ∷ r.Enum
+    ∷ r.Param ∷ r.Params ∷ r.Head ∷ r.Cond ∷ r.Inv ∷ r.Oper ∷ r.Attribute ∷ r.Parents ∷ r.Class ∷ r.Mult ∷ r.AssocEnd ∷ r.Assoc ∷ r.Context ∷ r.Constraints ∷ []
 
 pub rule_there : (rule : Rule) → slice_get all_rules (number_of_rule rule) ≡ Some rule
 rule_there r.File = refl
@@ -169,7 +174,8 @@ are_numbered i (rule ∷ rules) = both (i == number_of_rule rule) (are_numbered 
 
 numbered_from : (i : ℕ) (rules : List Rule) → are_numbered i rules ≡ true → (n : ℕ) → n < length rules → (rule : Rule) × ((n + i == number_of_rule rule) ≡ true)
 numbered_from i [] e n low = absurd (omega (arith, low))
-numbered_from i (x ∷ xs) e zero low = let z : i ≡ 0 + i = omega arith in (x, subst (λ (m : ℕ). (m == number_of_rule x) ≡ true) z (both_left (i == number_of_rule x) (are_numbered (suc i) xs) e))
+numbered_from i (x ∷ xs) e zero low = let z : i ≡ 0 + i = omega arith in
+    (x, subst (λ (m : ℕ). (m == number_of_rule x) ≡ true) z (both_left (i == number_of_rule x) (are_numbered (suc i) xs) e))
 numbered_from i (x ∷ xs) e (suc n) low =
     let later = numbered_from (suc i) xs (both_right (i == number_of_rule x) (are_numbered (suc i) xs) e) n (omega (arith, low)) in
     let z : n + suc i ≡ suc n + i = omega arith in
@@ -177,7 +183,8 @@ numbered_from i (x ∷ xs) e (suc n) low =
 
 -- each number below 63 is that of a rule
 pub rule_numbered : (n : ℕ) → n < 63 → (rule : Rule) × ((n == number_of_rule rule) ≡ true)
-rule_numbered n low = let found = numbered_from 0 all_rules refl n low in let z : n + 0 ≡ n = omega arith in (found.0, subst (λ (m : ℕ). (m == number_of_rule found.0) ≡ true) z found.1)
+rule_numbered n low = let found = numbered_from 0 all_rules refl n low in let z : n + 0 ≡ n = omega arith in
+    (found.0, subst (λ (m : ℕ). (m == number_of_rule found.0) ≡ true) z found.1)
 
 -- where the parts are there, so is what is made of them
 module _ {X : Type 0} where
@@ -185,15 +192,19 @@ module _ {X : Type 0} where
   one None make h = absurd (cc)
   one (Some a) make h = refl
 
-  two : (p q : Option ParseTree) (make : ParseTree → ParseTree → X) → both (is_some p) (both (is_some q) true) ≡ true → is_some (and_then p (λ a. and_then q (λ b. Some (make a b)))) ≡ true
+  two : (p q : Option ParseTree) (make : ParseTree → ParseTree → X) → both (is_some p) (both (is_some q) true) ≡ true
+      → is_some (and_then p (λ a. and_then q (λ b. Some (make a b)))) ≡ true
   two None q make h = absurd (cc)
   two (Some a) q make h = one q (make a) h
 
-  three : (p q s : Option ParseTree) (make : ParseTree → ParseTree → ParseTree → X) → both (is_some p) (both (is_some q) (both (is_some s) true)) ≡ true → is_some (and_then p (λ a. and_then q (λ b. and_then s (λ c. Some (make a b c))))) ≡ true
+  three : (p q s : Option ParseTree) (make : ParseTree → ParseTree → ParseTree → X) → both (is_some p) (both (is_some q) (both (is_some s) true)) ≡ true
+      → is_some (and_then p (λ a. and_then q (λ b. and_then s (λ c. Some (make a b c))))) ≡ true
   three None q s make h = absurd (cc)
   three (Some a) q s make h = two q s (make a) h
 
-  four : (p q s u : Option ParseTree) (make : ParseTree → ParseTree → ParseTree → ParseTree → X) → both (is_some p) (both (is_some q) (both (is_some s) (both (is_some u) true))) ≡ true → is_some (and_then p (λ a. and_then q (λ b. and_then s (λ c. and_then u (λ d. Some (make a b c d)))))) ≡ true
+  four : (p q s u : Option ParseTree) (make : ParseTree → ParseTree → ParseTree → ParseTree → X)
+      → both (is_some p) (both (is_some q) (both (is_some s) (both (is_some u) true))) ≡ true
+      → is_some (and_then p (λ a. and_then q (λ b. and_then s (λ c. and_then u (λ d. Some (make a b c d)))))) ≡ true
   four None q s u make h = absurd (cc)
   four (Some a) q s u make h = three q s u (make a) h
 
@@ -239,7 +250,8 @@ met_has_parts r.For row h = three (next_to k.For (trees_of row)) (next_to k.In (
 met_has_parts r.While row h = two (next_to k.While (trees_of row)) (next_to k.Do (trees_of row)) _ h
 met_has_parts r.Assign row h = one (slice_get (trees_of row) 0) _ h
 met_has_parts r.Stmt row h = one (slice_get (trees_of row) 0) _ h
-met_has_parts r.Enter row h = three (slice_get (trees_of row) 1) (slice_get (trees_of row) 2) (slice_get (filter (selects (s.Rule r.Args)) (trees_of row)) 0) _ h
+met_has_parts r.Enter row h =
+    three (slice_get (trees_of row) 1) (slice_get (trees_of row) 2) (slice_get (filter (selects (s.Rule r.Args)) (trees_of row)) 0) _ h
 met_has_parts r.Exit row h = refl
 met_has_parts r.Execute row h = one (next_to k.Bang (trees_of row)) _ h
 met_has_parts r.Query row h = one (slice_get (filter (selects (s.Rule r.Expr)) (trees_of row)) 0) _ h

@@ -26,11 +26,13 @@ deep = 9
 
 pub one_of_token : (sorts : List Select) (k at : ℕ) → is_one_of sorts (leaf k 0) ≡ is_one_of sorts (leaf k at)
 one_of_token [] k at = refl
-one_of_token (x ∷ xs) k at = ap (λ (b : Bool). b || is_one_of xs (leaf k 0)) (selects_token x k at) ∙ ap (λ (b : Bool). selects x (leaf k at) || b) (one_of_token xs k at)
+one_of_token (x ∷ xs) k at =
+    ap (λ (b : Bool). b || is_one_of xs (leaf k 0)) (selects_token x k at) ∙ ap (λ (b : Bool). selects x (leaf k at) || b) (one_of_token xs k at)
 
 pub one_of_rule : (sorts : List Select) (r : ℕ) (row : Row) → is_one_of sorts (node r Row.none) ≡ is_one_of sorts (node r row)
 one_of_rule [] r row = refl
-one_of_rule (x ∷ xs) r row = ap (λ (b : Bool). b || is_one_of xs (node r Row.none)) (selects_rule x r row) ∙ ap (λ (b : Bool). selects x (node r row) || b) (one_of_rule xs r row)
+one_of_rule (x ∷ xs) r row =
+    ap (λ (b : Bool). b || is_one_of xs (node r Row.none)) (selects_rule x r row) ∙ ap (λ (b : Bool). selects x (node r row) || b) (one_of_rule xs r row)
 
 abbrev pub one_of_label : (sorts : List Select) → IsOfLabel (λ t. is_one_of sorts t)
 one_of_label sorts = record { of_token = one_of_token sorts; of_rule = one_of_rule sorts }
@@ -44,8 +46,10 @@ sought_good select sorts t = not (selects select t) || is_one_of sorts t
 
 abbrev sought_label : (select : Select) (sorts : List Select) → IsOfLabel (sought_good select sorts)
 sought_label select sorts = record {
-  of_token = λ k at. ap (λ (b : Bool). not b || is_one_of sorts (leaf k 0)) (selects_token select k at) ∙ ap (λ (b : Bool). not (selects select (leaf k at)) || b) (one_of_token sorts k at);
-  of_rule = λ r row. ap (λ (b : Bool). not b || is_one_of sorts (node r Row.none)) (selects_rule select r row) ∙ ap (λ (b : Bool). not (selects select (node r row)) || b) (one_of_rule sorts r row);
+  of_token = λ k at. ap (λ (b : Bool). not b || is_one_of sorts (leaf k 0)) (selects_token select k at)
+      ∙ ap (λ (b : Bool). not (selects select (leaf k at)) || b) (one_of_token sorts k at);
+  of_rule = λ r row. ap (λ (b : Bool). not b || is_one_of sorts (node r Row.none)) (selects_rule select r row)
+      ∙ ap (λ (b : Bool). not (selects select (node r row)) || b) (one_of_rule sorts r row);
 }
 
 select_label : (select : Select) → IsOfLabel (selects select)
@@ -57,7 +61,8 @@ either_sort a b t = selects a t || selects b t
 either_label : (a b : Select) → IsOfLabel (either_sort a b)
 either_label a b = record {
   of_token = λ k at. ap (λ (x : Bool). x || selects b (leaf k 0)) (selects_token a k at) ∙ ap (λ (x : Bool). selects a (leaf k at) || x) (selects_token b k at);
-  of_rule = λ r row. ap (λ (x : Bool). x || selects b (node r Row.none)) (selects_rule a r row) ∙ ap (λ (x : Bool). selects a (node r row) || x) (selects_rule b r row);
+  of_rule = λ r row. ap (λ (x : Bool). x || selects b (node r Row.none)) (selects_rule a r row)
+      ∙ ap (λ (x : Bool). selects a (node r row) || x) (selects_rule b r row);
 }
 
 abbrev good_at : ℕ → Spots → Bool
@@ -82,9 +87,13 @@ has_of (sure l h f) = h
 -- what is known of the production of a rule
 module _ (g : Table) where
   abbrev if_there_known : Place → List Select → ℕ → Bool
-  if_there_known (nth i) sorts p = good_at i (known_at Spots (HasSpots (λ t. is_one_of sorts t)) (spot_way (λ t. is_one_of sorts t) (one_of_label sorts)) g deep p)
-  if_there_known (after kind) sorts p = follows (known_at Edges (HasEdges (λ t. is_token kind t) (λ t. is_one_of sorts t)) (edge_way (λ t. is_token kind t) (λ t. is_one_of sorts t) (token_label kind) (one_of_label sorts)) g deep p)
-  if_there_known (first_of select) sorts p = known_at Bool (AllAreGood (sought_good select sorts)) (all_way (sought_good select sorts) (sought_label select sorts)) g deep p
+  if_there_known (nth i) sorts p =
+      good_at i (known_at Spots (HasSpots (λ t. is_one_of sorts t)) (spot_way (λ t. is_one_of sorts t) (one_of_label sorts)) g deep p)
+  if_there_known (after kind) sorts p =
+      follows (known_at Edges (HasEdges (λ t. is_token kind t) (λ t. is_one_of sorts t))
+      (edge_way (λ t. is_token kind t) (λ t. is_one_of sorts t) (token_label kind) (one_of_label sorts)) g deep p)
+  if_there_known (first_of select) sorts p =
+      known_at Bool (AllAreGood (sought_good select sorts)) (all_way (sought_good select sorts) (sought_label select sorts)) g deep p
 
   abbrev has_known : (ParseTree → Bool) → ℕ → Bool
   has_known sort p = has_of (sure_at sort g deep p)
@@ -92,7 +101,8 @@ module _ (g : Table) where
   abbrev is_known_so : Fact → ℕ → Bool
   is_known_so (there place sorts) p = both (is_enough (need_at place) (sure_at (sort_of (need_at place)) g deep p)) (if_there_known place sorts p)
   is_known_so (maybe place sorts) p = if_there_known place sorts p
-  is_known_so (each select sorts) p = known_at Bool (AllAreGood (sought_good select sorts)) (all_way (sought_good select sorts) (sought_label select sorts)) g deep p
+  is_known_so (each select sorts) p =
+      known_at Bool (AllAreGood (sought_good select sorts)) (all_way (sought_good select sorts) (sought_label select sorts)) g deep p
   is_known_so (some_of select) p = has_known (selects select) p
   is_known_so (either_of a b) p = has_known (either_sort a b) p
   is_known_so one_more p = is_one_more (known_at Balance IsBalance balance_way g deep p)
@@ -156,22 +166,29 @@ module _ (sorts : List Select) where
   first_if sort [] h = refl
   first_if sort (t ∷ ts) h = h
 
-  next_good : (kind : TokenKind) (ts : List ParseTree) → follow_good (λ t. is_token kind t) (λ t. is_one_of sorts t) ts ≡ true → is_if_there sorts (next_to kind ts) ≡ true
+  next_good : (kind : TokenKind) (ts : List ParseTree) → follow_good (λ t. is_token kind t) (λ t. is_one_of sorts t) ts ≡ true
+      → is_if_there sorts (next_to kind ts) ≡ true
   next_good kind [] h = refl
-  next_good kind (t ∷ ts) h = here (is_token kind t) (both_left (not (is_token kind t) || good ts) (follow_good (λ u. is_token kind u) (λ u. is_one_of sorts u) ts) h) (next_good kind ts (both_right (not (is_token kind t) || good ts) (follow_good (λ u. is_token kind u) (λ u. is_one_of sorts u) ts) h))
+  next_good kind (t ∷ ts) h =
+      here (is_token kind t) (both_left (not (is_token kind t) || good ts) (follow_good (λ u. is_token kind u) (λ u. is_one_of sorts u) ts) h)
+      (next_good kind ts (both_right (not (is_token kind t) || good ts) (follow_good (λ u. is_token kind u) (λ u. is_one_of sorts u) ts) h))
     where
       good : List ParseTree → Bool
       good us = first_good (λ u. is_token kind u) (λ u. is_one_of sorts u) us
 
-      here : (b : Bool) → (not b || first_good (λ u. is_token kind u) (λ u. is_one_of sorts u) ts) ≡ true → is_if_there sorts (next_to kind ts) ≡ true → is_if_there sorts (if b then slice_get ts 0 else next_to kind ts) ≡ true
+      here : (b : Bool) → (not b || first_good (λ u. is_token kind u) (λ u. is_one_of sorts u) ts) ≡ true
+          → is_if_there sorts (next_to kind ts) ≡ true → is_if_there sorts (if b then slice_get ts 0 else next_to kind ts) ≡ true
       here true e later = first_if (λ u. is_token kind u) ts e
       here false e later = later
 
   all_sought : (select : Select) (ts : List ParseTree) → all_good (sought_good select sorts) ts ≡ true → are_all sorts (filter (selects select) ts) ≡ true
   all_sought select [] h = refl
-  all_sought select (t ∷ ts) h = here (selects select t) (both_left (sought_good select sorts t) (all_good (sought_good select sorts) ts) h) (all_sought select ts (both_right (sought_good select sorts t) (all_good (sought_good select sorts) ts) h))
+  all_sought select (t ∷ ts) h =
+      here (selects select t) (both_left (sought_good select sorts t) (all_good (sought_good select sorts) ts) h)
+      (all_sought select ts (both_right (sought_good select sorts t) (all_good (sought_good select sorts) ts) h))
     where
-      here : (b : Bool) → (not b || is_one_of sorts t) ≡ true → are_all sorts (filter (selects select) ts) ≡ true → are_all sorts (if b then t ∷ filter (selects select) ts else filter (selects select) ts) ≡ true
+      here : (b : Bool) → (not b || is_one_of sorts t) ≡ true → are_all sorts (filter (selects select) ts) ≡ true
+          → are_all sorts (if b then t ∷ filter (selects select) ts else filter (selects select) ts) ≡ true
       here true e later = and_of (is_one_of sorts t) (are_all sorts (filter (selects select) ts)) e later
       here false e later = later
 
@@ -183,30 +200,38 @@ module _ (sorts : List Select) where
       here true e = refl
       here false e = absurd (cc)
 
-one_of_two : (a b : Select) (ts : List ParseTree) → has_one (either_sort a b) ts ≡ true → (is_some (slice_get (filter (selects a) ts) 0) || is_some (slice_get (filter (selects b) ts) 0)) ≡ true
+one_of_two : (a b : Select) (ts : List ParseTree) → has_one (either_sort a b) ts ≡ true
+    → (is_some (slice_get (filter (selects a) ts) 0) || is_some (slice_get (filter (selects b) ts) 0)) ≡ true
 one_of_two a b ts h =
-    ⊎_elim (λ x. or_left (is_some (slice_get (filter (selects a) ts) 0)) (is_some (slice_get (filter (selects b) ts) 0)) (some_sought (selects a) ts x)) (λ x. or_right (is_some (slice_get (filter (selects a) ts) 0)) (is_some (slice_get (filter (selects b) ts) 0)) (some_sought (selects b) ts x)) (apart ts h)
+    ⊎_elim (λ x. or_left (is_some (slice_get (filter (selects a) ts) 0)) (is_some (slice_get (filter (selects b) ts) 0)) (some_sought (selects a) ts x))
+    (λ x. or_right (is_some (slice_get (filter (selects a) ts) 0)) (is_some (slice_get (filter (selects b) ts) 0)) (some_sought (selects b) ts x))
+    (apart ts h)
   where
     apart : (us : List ParseTree) → has_one (either_sort a b) us ≡ true → (has_one (selects a) us ≡ true) ⊎ (has_one (selects b) us ≡ true)
     apart [] e = absurd (cc)
     apart (u ∷ us) e = here (selects a u) (selects b u) e (apart us)
       where
-        here : (x y : Bool) → ((x || y) || has_one (either_sort a b) us) ≡ true → (has_one (either_sort a b) us ≡ true → (has_one (selects a) us ≡ true) ⊎ (has_one (selects b) us ≡ true)) → ((x || has_one (selects a) us) ≡ true) ⊎ ((y || has_one (selects b) us) ≡ true)
+        here : (x y : Bool) → ((x || y) || has_one (either_sort a b) us) ≡ true
+            → (has_one (either_sort a b) us ≡ true → (has_one (selects a) us ≡ true) ⊎ (has_one (selects b) us ≡ true))
+            → ((x || has_one (selects a) us) ≡ true) ⊎ ((y || has_one (selects b) us) ≡ true)
         here true y e later = inl refl
         here false true e later = inr refl
         here false false e later = later e
 
 balanced : (b : Balance) (ts : List ParseTree) → IsBalance b ts → is_one_more b ≡ true → (nodes_in ts == suc (tokens_in ts)) ≡ true
 balanced unknown ts h e = absurd (cc)
-balanced (balance x y) ts h e = let s : x ≡ suc y = same x (suc y) e in let n : nodes_in ts ≡ suc (tokens_in ts) = omega (arith, h, s) in eq-eqb (nodes_in ts) (suc (tokens_in ts)) n
+balanced (balance x y) ts h e = let s : x ≡ suc y = same x (suc y) e in
+    let n : nodes_in ts ≡ suc (tokens_in ts) = omega (arith, h, s) in eq-eqb (nodes_in ts) (suc (tokens_in ts)) n
   where
     same : (m n : ℕ) → (m == n) ≡ true → m ≡ n
     same m n e = grind (arith, nat_tests)
 
-spot_good : (sorts : List Select) (i : ℕ) (d : Spots) (ts : List ParseTree) → HasSpots (λ t. is_one_of sorts t) d ts → good_at i d ≡ true → good_if (λ t. is_one_of sorts t) (slice_get ts i) ≡ true
+spot_good : (sorts : List Select) (i : ℕ) (d : Spots) (ts : List ParseTree) → HasSpots (λ t. is_one_of sorts t) d ts
+    → good_at i d ≡ true → good_if (λ t. is_one_of sorts t) (slice_get ts i) ≡ true
 spot_good sorts i (spots n m at) ts h e = h.fits i e
 
-edge_good : (sorts : List Select) (kind : TokenKind) (d : Edges) (ts : List ParseTree) → HasEdges (λ t. is_token kind t) (λ t. is_one_of sorts t) d ts → follows d ≡ true → follow_good (λ t. is_token kind t) (λ t. is_one_of sorts t) ts ≡ true
+edge_good : (sorts : List Select) (kind : TokenKind) (d : Edges) (ts : List ParseTree)
+    → HasEdges (λ t. is_token kind t) (λ t. is_one_of sorts t) d ts → follows d ≡ true → follow_good (λ t. is_token kind t) (λ t. is_one_of sorts t) ts ≡ true
 edge_good sorts kind (edges n f l p) ts h e = h.follows e
 
 one_there : (sort : ParseTree → Bool) (d : Sure) (ts : List ParseTree) → HoldsOf sort d ts → has_of d ≡ true → has_one sort ts ≡ true
@@ -219,7 +244,8 @@ met_there (first_of select) ts h = h
 
 module _ (g : Table) (ks : List ℕ) (p level at to : ℕ) (trees : List ParseTree) (of : Gives g ks p level at (Outcome.ends to trees)) where
   has_sound : (sort : ParseTree → Bool) → IsOfLabel sort → has_known g sort p ≡ true → has_one sort trees ≡ true
-  has_sound sort label e = one_there sort (sure_at sort g deep p) trees (sure_sound sort g label.of_token label.of_rule ks deep p level at (Outcome.ends to trees) of) e
+  has_sound sort label e =
+      one_there sort (sure_at sort g deep p) trees (sure_sound sort g label.of_token label.of_rule ks deep p level at (Outcome.ends to trees) of) e
 
   if_there_sound : (place : Place) (sorts : List Select) → if_there_known g place sorts p ≡ true → is_if_there sorts (part_in place trees) ≡ true
   if_there_sound (nth i) sorts e =
@@ -230,7 +256,8 @@ module _ (g : Table) (ks : List ℕ) (p level at to : ℕ) (trees : List ParseTr
       let sort : ParseTree → Bool = λ t. is_token kind t in
       let good : ParseTree → Bool = λ t. is_one_of sorts t in
       let known = is_known Edges (HasEdges sort good) (edge_way sort good (token_label kind) (one_of_label sorts)) g ks deep p level at to trees of in
-      next_good sorts kind trees (edge_good sorts kind (known_at Edges (HasEdges sort good) (edge_way sort good (token_label kind) (one_of_label sorts)) g deep p) trees known e)
+      next_good sorts kind trees
+      (edge_good sorts kind (known_at Edges (HasEdges sort good) (edge_way sort good (token_label kind) (one_of_label sorts)) g deep p) trees known e)
   if_there_sound (first_of select) sorts e =
       let good : ParseTree → Bool = sought_good select sorts in
       let known = is_known Bool (AllAreGood good) (all_way good (sought_label select sorts)) g ks deep p level at to trees of in
@@ -239,9 +266,11 @@ module _ (g : Table) (ks : List ℕ) (p level at to : ℕ) (trees : List ParseTr
   fact_sound : (fact : Fact) → is_known_so g fact p ≡ true → so_in fact trees ≡ true
   fact_sound (there place sorts) e =
       let enough = both_left (is_enough (need_at place) (sure_at (sort_of (need_at place)) g deep p)) (if_there_known g place sorts p) e in
-      let holds = sure_sound (sort_of (need_at place)) g (sort_of_token (need_at place)) (sort_of_rule (need_at place)) ks deep p level at (Outcome.ends to trees) of in
+      let holds = sure_sound (sort_of (need_at place)) g (sort_of_token (need_at place))
+      (sort_of_rule (need_at place)) ks deep p level at (Outcome.ends to trees) of in
       let met = enough_met (need_at place) (sure_at (sort_of (need_at place)) g deep p) trees holds enough in
-      there_if sorts (part_in place trees) (met_there place trees met) (if_there_sound place sorts (both_right (is_enough (need_at place) (sure_at (sort_of (need_at place)) g deep p)) (if_there_known g place sorts p) e))
+      there_if sorts (part_in place trees) (met_there place trees met)
+      (if_there_sound place sorts (both_right (is_enough (need_at place) (sure_at (sort_of (need_at place)) g deep p)) (if_there_known g place sorts p) e))
   fact_sound (maybe place sorts) e = if_there_sound place sorts e
   fact_sound (each select sorts) e =
       let good : ParseTree → Bool = sought_good select sorts in
@@ -249,29 +278,38 @@ module _ (g : Table) (ks : List ℕ) (p level at to : ℕ) (trees : List ParseTr
       all_sought sorts select trees (known e)
   fact_sound (some_of select) e = some_sought (selects select) trees (has_sound (selects select) (select_label select) e)
   fact_sound (either_of a b) e = one_of_two a b trees (has_sound (either_sort a b) (either_label a b) e)
-  fact_sound one_more e = balanced (known_at Balance IsBalance balance_way g deep p) trees (is_known Balance IsBalance balance_way g ks deep p level at to trees of) e
+  fact_sound one_more e =
+      balanced (known_at Balance IsBalance balance_way g deep p) trees (is_known Balance IsBalance balance_way g ks deep p level at to trees of) e
 
   facts_sound : (more : List Fact) (n : ℕ) → are_known_so g more p ≡ true → are_so more (node n (row_of trees)) ≡ true
   facts_sound [] n e = refl
   facts_sound (fact ∷ more) n e =
       let said = fact_sound fact (both_left (is_known_so g fact p) (are_known_so g more p) e) in
       let below = subst (λ (ts : List ParseTree). so_in fact ts ≡ true) (sym (trees_back trees)) said in
-      and_of (is_so fact (node n (row_of trees))) (are_so more (node n (row_of trees))) (so_of_node fact n (row_of trees) below) (facts_sound more n (both_right (is_known_so g fact p) (are_known_so g more p) e))
+      and_of (is_so fact (node n (row_of trees))) (are_so more (node n (row_of trees)))
+      (so_of_node fact n (row_of trees) below) (facts_sound more n (both_right (is_known_so g fact p) (are_known_so g more p) e))
 
-known_of : (g : Table) (rules : List Rule) → all_known g rules ≡ true → (i : ℕ) (rule : Rule) → slice_get rules i ≡ Some rule → rule_known g rule (slice_get g.rules (number_of_rule rule)) ≡ true
+known_of : (g : Table) (rules : List Rule) → all_known g rules ≡ true → (i : ℕ) (rule : Rule)
+    → slice_get rules i ≡ Some rule → rule_known g rule (slice_get g.rules (number_of_rule rule)) ≡ true
 known_of g [] e i rule at = absurd (cc)
-known_of g (x ∷ xs) e zero rule at = let same : x ≡ rule = cc in subst (λ (y : Rule). rule_known g y (slice_get g.rules (number_of_rule y)) ≡ true) same (both_left (rule_known g x (slice_get g.rules (number_of_rule x))) (all_known g xs) e)
+known_of g (x ∷ xs) e zero rule at = let same : x ≡ rule = cc in
+    subst (λ (y : Rule). rule_known g y (slice_get g.rules (number_of_rule y)) ≡ true) same
+    (both_left (rule_known g x (slice_get g.rules (number_of_rule x))) (all_known g xs) e)
 known_of g (x ∷ xs) e (suc i) rule at = known_of g xs (both_right (rule_known g x (slice_get g.rules (number_of_rule x))) (all_known g xs) e) i rule at
 
-facts_of_rule : (ks : List ℕ) (n p level at to : ℕ) (trees : List ParseTree) → slice_get language.rules n ≡ Some p → Gives language ks p level at (Outcome.ends to trees) → (rule : Rule) → is_rule rule (node n (row_of trees)) ≡ true → are_so (facts rule) (node n (row_of trees)) ≡ true
+facts_of_rule : (ks : List ℕ) (n p level at to : ℕ) (trees : List ParseTree) → slice_get language.rules n ≡ Some p
+    → Gives language ks p level at (Outcome.ends to trees) → (rule : Rule) → is_rule rule (node n (row_of trees)) ≡ true
+    → are_so (facts rule) (node n (row_of trees)) ≡ true
 facts_of_rule ks n p level at to trees e of rule is =
     let same : n ≡ number_of_rule rule = grind (arith, nat_tests) in
     let there : slice_get language.rules (number_of_rule rule) ≡ Some p = subst (λ (m : ℕ). slice_get language.rules m ≡ Some p) same e in
-    let known = subst (λ (o : Option ℕ). rule_known language rule o ≡ true) there (known_of language all_rules all_are_known (number_of_rule rule) rule (rule_there rule)) in
+    let known = subst (λ (o : Option ℕ). rule_known language rule o ≡ true) there
+    (known_of language all_rules all_are_known (number_of_rule rule) rule (rule_there rule)) in
     facts_sound language ks p level at to trees of (facts rule) n known
 
 -- what a rule's production gives, below a node of the rule, is as the facts say
-pub node_has_sorts : (ks : List ℕ) (n p level at to : ℕ) (trees : List ParseTree) → slice_get language.rules n ≡ Some p → Gives language ks p level at (Outcome.ends to trees) → HasItsSorts (node n (row_of trees))
+pub node_has_sorts : (ks : List ℕ) (n p level at to : ℕ) (trees : List ParseTree)
+    → slice_get language.rules n ≡ Some p → Gives language ks p level at (Outcome.ends to trees) → HasItsSorts (node n (row_of trees))
 node_has_sorts ks n p level at to trees e of =
     let its = rule_of_number n p e in
     record { rule = its.0; is = its.1; facts = facts_of_rule ks n p level at to trees e of }

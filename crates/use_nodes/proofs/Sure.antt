@@ -99,7 +99,8 @@ module _ (sort : ParseTree → Bool) where
 
   one_left : (ts us : List ParseTree) → has_one ts ≡ true → has_one (ts ++ us) ≡ true
   one_left [] us e = absurd (cc)
-  one_left (t ∷ ts) us e = or_map (sort t) (has_one ts) (λ h. or_left (sort t) (has_one (ts ++ us)) h) (λ h. or_right (sort t) (has_one (ts ++ us)) (one_left ts us h)) e
+  one_left (t ∷ ts) us e =
+      or_map (sort t) (has_one ts) (λ h. or_left (sort t) (has_one (ts ++ us)) h) (λ h. or_right (sort t) (has_one (ts ++ us)) (one_left ts us h)) e
 
   one_right : (ts us : List ParseTree) → has_one us ≡ true → has_one (ts ++ us) ≡ true
   one_right [] us e = e
@@ -107,7 +108,11 @@ module _ (sort : ParseTree → Bool) where
 
   followed_left : (ts us : List ParseTree) → has_followed ts ≡ true → has_followed (ts ++ us) ≡ true
   followed_left [] us e = absurd (cc)
-  followed_left (t ∷ ts) us e = or_map (both (sort t) (is_filled ts)) (has_followed ts) (λ h. or_left (both (sort t) (is_filled (ts ++ us))) (has_followed (ts ++ us)) (both_of (sort t) (is_filled (ts ++ us)) (both_left (sort t) (is_filled ts) h) (filled_left ts us (both_right (sort t) (is_filled ts) h)))) (λ h. or_right (both (sort t) (is_filled (ts ++ us))) (has_followed (ts ++ us)) (followed_left ts us h)) e
+  followed_left (t ∷ ts) us e =
+      or_map (both (sort t) (is_filled ts)) (has_followed ts)
+      (λ h. or_left (both (sort t) (is_filled (ts ++ us))) (has_followed (ts ++ us))
+      (both_of (sort t) (is_filled (ts ++ us)) (both_left (sort t) (is_filled ts) h) (filled_left ts us (both_right (sort t) (is_filled ts) h))))
+      (λ h. or_right (both (sort t) (is_filled (ts ++ us))) (has_followed (ts ++ us)) (followed_left ts us h)) e
 
   followed_right : (ts us : List ParseTree) → has_followed us ≡ true → has_followed (ts ++ us) ≡ true
   followed_right [] us e = e
@@ -115,7 +120,10 @@ module _ (sort : ParseTree → Bool) where
 
   followed_across : (ts us : List ParseTree) → has_one ts ≡ true → is_filled us ≡ true → has_followed (ts ++ us) ≡ true
   followed_across [] us e n = absurd (cc)
-  followed_across (t ∷ ts) us e n = or_map (sort t) (has_one ts) (λ h. or_left (both (sort t) (is_filled (ts ++ us))) (has_followed (ts ++ us)) (both_of (sort t) (is_filled (ts ++ us)) h (filled_right ts us n))) (λ h. or_right (both (sort t) (is_filled (ts ++ us))) (has_followed (ts ++ us)) (followed_across ts us h n)) e
+  followed_across (t ∷ ts) us e n =
+      or_map (sort t) (has_one ts)
+      (λ h. or_left (both (sort t) (is_filled (ts ++ us))) (has_followed (ts ++ us)) (both_of (sort t) (is_filled (ts ++ us)) h (filled_right ts us n)))
+      (λ h. or_right (both (sort t) (is_filled (ts ++ us))) (has_followed (ts ++ us)) (followed_across ts us h n)) e
 
   -- it holds of a row
   pub record Holds (l : ℕ) (h f : Bool) (ts : List ParseTree) : Type 0 where
@@ -140,7 +148,9 @@ module _ (sort : ParseTree → Bool) where
   turn_holds (sure l h f) (sure m i e) ts us a b = record {
     long = let x = a.long in let y = b.long in omega (arith, x, y, length-append ts us);
     one = or_map h i (λ z. one_left ts us (a.one z)) (λ z. one_right ts us (b.one z));
-    followed = or_map (both h (nat_lt 0 m)) (f || e) (λ z. followed_across ts us (a.one (both_left h (nat_lt 0 m) z)) (filled_by m us b.long (both_right h (nat_lt 0 m) z))) (or_map f e (λ z. followed_left ts us (a.followed z)) (λ z. followed_right ts us (b.followed z)));
+    followed = or_map (both h (nat_lt 0 m)) (f || e)
+        (λ z. followed_across ts us (a.one (both_left h (nat_lt 0 m) z)) (filled_by m us b.long (both_right h (nat_lt 0 m) z)))
+        (or_map f e (λ z. followed_left ts us (a.followed z)) (λ z. followed_right ts us (b.followed z)));
   }
 
   left_holds : (s r : Sure) (ts : List ParseTree) → HoldsOf s ts → HoldsOf (either s r) ts
@@ -170,7 +180,9 @@ module _ (sort : ParseTree → Bool) where
   -- of one branch, so of any
   branch_holds : (one : ℕ → Sure) (qs : List ℕ) (q : ℕ) → IsIn q qs → (ts : List ParseTree) → HoldsOf (one q) ts → HoldsOf (any_of one qs) ts
   branch_holds one [] q i ts h = absurd i
-  branch_holds one (x ∷ xs) q i ts h = ⊎_elim (λ same. left_holds (one x) (any_of one xs) ts (subst (λ (n : ℕ). HoldsOf (one n) ts) same h)) (λ later. right_holds (one x) (any_of one xs) ts (branch_holds one xs q later ts h)) i
+  branch_holds one (x ∷ xs) q i ts h =
+      ⊎_elim (λ same. left_holds (one x) (any_of one xs) ts (subst (λ (n : ℕ). HoldsOf (one n) ts) same h))
+      (λ later. right_holds (one x) (any_of one xs) ts (branch_holds one xs q later ts h)) i
 
   chosen_holds : (one : ℕ → Sure) (qs : List ℕ) (q : ℕ) → IsIn q qs → (a : Outcome) → HoldsOfAll (one q) a → HoldsOfAll (any_of one qs) a
   chosen_holds one qs q i (Outcome.ends to trees) h = branch_holds one qs q i trees h
@@ -199,7 +211,8 @@ module _ (sort : ParseTree → Bool) where
     sure_at zero p = nothing_sure
     sure_at (suc n) p = sure_prod (λ q. sure_at n q) (slice_get g.prods p)
 
-    module _ (of_token : (k at : ℕ) → sort (leaf k 0) ≡ sort (leaf k at)) (of_rule : (r : ℕ) (row : Row) → sort (node r Row.none) ≡ sort (node r row)) (ks : List ℕ) where
+    module _ (of_token : (k at : ℕ) → sort (leaf k 0) ≡ sort (leaf k at)) (of_rule : (r : ℕ) (row : Row)
+        → sort (node r Row.none) ≡ sort (node r row)) (ks : List ℕ) where
       below_holds : (r : ℕ) (a : Outcome) → HoldsOfAll (sure_of (node r Row.none)) (below_rule r a)
       below_holds r (Outcome.ends to trees) = alone_holds (node r Row.none) (node r (row_of trees)) (of_rule r (row_of trees))
       below_holds r (Outcome.stuck at) = tt
@@ -208,7 +221,8 @@ module _ (sort : ParseTree → Bool) where
       module _ (one : ℕ → Sure) (sound : (q level at : ℕ) (a : Outcome) → Gives g ks q level at a → HoldsOfAll (one q) a) where
         all_sound : (ps : List ℕ) (level at : ℕ) (a : Outcome) → GivesAll g ks ps level at a → HoldsOfAll (all_in_turn one ps) a
         all_sound _ _ _ _ (GivesAll.all_done level at) = nothing_holds (Outcome.ends at [])
-        all_sound _ _ _ _ (GivesAll.then p ps level at to trees a of all) = then_holds (one p) (all_in_turn one ps) trees a (sound p level at (Outcome.ends to trees) of) (all_sound ps level to a all)
+        all_sound _ _ _ _ (GivesAll.then p ps level at to trees a of all) =
+            then_holds (one p) (all_in_turn one ps) trees a (sound p level at (Outcome.ends to trees) of) (all_sound ps level to a all)
         all_sound _ _ _ _ (GivesAll.stop p ps level at a of s) = stop_holds (all_in_turn one (p ∷ ps)) a s
 
         prod_sound : (x : Prod) (level at : ℕ) (a : Outcome) → GivesProd g ks x level at a → HoldsOfAll (sure_prod one (Some x)) a
@@ -217,12 +231,14 @@ module _ (sort : ParseTree → Bool) where
         prod_sound _ _ _ _ (GivesProd.rule r rule level inner at a e f of) = below_holds r a
         prod_sound _ _ _ _ (GivesProd.too_deep r rule level at e f) = tt
         prod_sound _ _ _ _ (GivesProd.parts ps level at a all) = all_sound ps level at a all
-        prod_sound _ _ _ _ (GivesProd.branch bs other q level at a e of) = chosen_holds one (choices bs other) q (branch_in ks at q bs other e) a (sound q level at a of)
+        prod_sound _ _ _ _ (GivesProd.branch bs other q level at a e of) =
+            chosen_holds one (choices bs other) q (branch_in ks at q bs other e) a (sound q level at a of)
         prod_sound _ _ _ _ (GivesProd.no_branch bs other level at e) = tt
         prod_sound _ _ _ _ (GivesProd.times firsts q level at a all) = nothing_holds a
 
         here_sound : (p level at : ℕ) (a : Outcome) → Gives g ks p level at a → HoldsOfAll (sure_prod one (slice_get g.prods p)) a
-        here_sound _ _ _ _ (Gives.production p level at x a e of) = subst (λ (o : Option Prod). HoldsOfAll (sure_prod one o) a) (sym e) (prod_sound x level at a of)
+        here_sound _ _ _ _ (Gives.production p level at x a e of) =
+            subst (λ (o : Option Prod). HoldsOfAll (sure_prod one o) a) (sym e) (prod_sound x level at a of)
 
       pub sure_sound : (n p level at : ℕ) (a : Outcome) → Gives g ks p level at a → HoldsOfAll (sure_at n p) a
       sure_sound zero p level at a of = nothing_holds a

@@ -21,7 +21,8 @@ use Rattle.use_nodes.specs.Nodes.{EachNode}
 abbrev pub ReadHas : (ParseTree → Type 0) → Reading → Type 0
 ReadHas P given = (ts : List Token) (tree : ParseTree) → given ≡ parsed ts tree → EachNode P (onto tree Row.none)
 
-module _ (P : ParseTree → Type 0) (of_node : (ks : List ℕ) (n p level at to : ℕ) (trees : List ParseTree) → slice_get language.rules n ≡ Some p → Gives language ks p level at (Outcome.ends to trees) → P (node n (row_of trees))) where
+module _ (P : ParseTree → Type 0) (of_node : (ks : List ℕ) (n p level at to : ℕ) (trees : List ParseTree)
+    → slice_get language.rules n ≡ Some p → Gives language ks p level at (Outcome.ends to trees) → P (node n (row_of trees))) where
   each_append : (ts us : List ParseTree) → EachNode P (row_of ts) → EachNode P (row_of us) → EachNode P (row_of (ts ++ us))
   each_append [] us h k = k
   each_append (leaf n at ∷ ts) us h k = each_append ts us h k
@@ -56,7 +57,8 @@ module _ (P : ParseTree → Type 0) (of_node : (ks : List ℕ) (n p level at to 
       each_prod : (x : Prod) (level at : ℕ) (a : Outcome) → GivesProd language ks x level at a → AreSuch a
       each_prod _ _ _ _ (GivesProd.token k level at e) = tt
       each_prod _ _ _ _ (GivesProd.no_token k level at e) = tt
-      each_prod _ _ _ _ (GivesProd.rule n rule level inner at a e f of) = each_below n rule.to inner at a (rule_at-to language n rule e) of (each rule.to inner at a of)
+      each_prod _ _ _ _ (GivesProd.rule n rule level inner at a e f of) =
+          each_below n rule.to inner at a (rule_at-to language n rule e) of (each rule.to inner at a of)
       each_prod _ _ _ _ (GivesProd.too_deep n rule level at e f) = tt
       each_prod _ _ _ _ (GivesProd.parts ps level at a all) = each_all ps level at a all
       each_prod _ _ _ _ (GivesProd.branch bs other q level at a e of) = each q level at a of
@@ -65,12 +67,14 @@ module _ (P : ParseTree → Type 0) (of_node : (ks : List ℕ) (n p level at to 
 
       each_all : (ps : List ℕ) (level at : ℕ) (a : Outcome) → GivesAll language ks ps level at a → AreSuch a
       each_all _ _ _ _ (GivesAll.all_done level at) = tt
-      each_all _ _ _ _ (GivesAll.then p ps level at to trees a of all) = each_before trees a (each p level at (Outcome.ends to trees) of) (each_all ps level to a all)
+      each_all _ _ _ _ (GivesAll.then p ps level at to trees a of all) =
+          each_before trees a (each p level at (Outcome.ends to trees) of) (each_all ps level to a all)
       each_all _ _ _ _ (GivesAll.stop p ps level at a of s) = each_stop a s
 
       each_times : (firsts : List ℕ) (q level at : ℕ) (a : Outcome) → GivesTimes language ks firsts q level at a → AreSuch a
       each_times _ _ _ _ _ (GivesTimes.no_more firsts q level at e) = tt
-      each_times _ _ _ _ _ (GivesTimes.once_more firsts q level at to trees a e of all) = each_before trees a (each q level at (Outcome.ends to trees) of) (each_times firsts q level to a all)
+      each_times _ _ _ _ _ (GivesTimes.once_more firsts q level at to trees a e of all) =
+          each_before trees a (each q level at (Outcome.ends to trees) of) (each_times firsts q level to a all)
       each_times _ _ _ _ _ (GivesTimes.stop_in firsts q level at a e of s) = each_stop a s
 
     pub derived_has : (start : Rule) (tree : ParseTree) → Derives language ks (number_of_rule start) tree → EachNode P (onto tree Row.none)
@@ -78,13 +82,15 @@ module _ (P : ParseTree → Type 0) (of_node : (ks : List ℕ) (n p level at to 
 
   module _ (start : Rule) (there : number_of_rule start < length language.rules) where
     judged_has : (ts : List Token) (v : Verdict) → Holds language (kinds ts) (number_of_rule start) v → ReadHas P (judged ts v)
-    judged_has ts (derived t) h us tree e = let same : t ≡ tree = cc in subst (λ (x : ParseTree). EachNode P (onto x Row.none)) same (derived_has (kinds ts) start t h)
+    judged_has ts (derived t) h us tree e = let same : t ≡ tree = cc in
+        subst (λ (x : ParseTree). EachNode P (onto x Row.none)) same (derived_has (kinds ts) start t h)
     judged_has ts (stuck at) h us tree e = absurd (cc)
     judged_has ts (deep at) h us tree e = absurd (cc)
 
     read_has : (found : Tokens) → ReadHas P (read_lexed (number_of_rule start) found)
     unfolding read_tokens
-    read_has (Ok ts) us tree e = judged_has ts (verdict language (kinds ts) (number_of_rule start)) (computed_holds language (kinds ts) is_fit (number_of_rule start) there) us tree e
+    read_has (Ok ts) us tree e =
+        judged_has ts (verdict language (kinds ts) (number_of_rule start)) (computed_holds language (kinds ts) is_fit (number_of_rule start) there) us tree e
     read_has (Err x) us tree e = absurd (cc)
 
   pub model_has : (text : List ℕ) → ReadHas P (read_model text)

@@ -51,7 +51,8 @@ module _ (good : ParseTree → Bool) where
 
   pub all_append : (ts us : List ParseTree) → all_good ts ≡ true → all_good us ≡ true → all_good (ts ++ us) ≡ true
   all_append [] us h k = k
-  all_append (t ∷ ts) us h k = both_of (good t) (all_good (ts ++ us)) (both_left (good t) (all_good ts) h) (all_append ts us (both_right (good t) (all_good ts) h) k)
+  all_append (t ∷ ts) us h k =
+      both_of (good t) (all_good (ts ++ us)) (both_left (good t) (all_good ts) h) (all_append ts us (both_right (good t) (all_good ts) h) k)
 
   abbrev pub AllAreGood : Bool → List ParseTree → Type 0
   AllAreGood b ts = b ≡ true → all_good ts ≡ true
@@ -126,14 +127,16 @@ module _ (good : ParseTree → Bool) where
   abbrev no_spots : Spots
   no_spots = spots false None (λ i. false)
 
-  past_good : (ts us : List ParseTree) (k : ℕ) (at more : ℕ → Bool) → length ts ≡ k → ((i : ℕ) → at i ≡ true → good_if (slice_get ts i) ≡ true) → ((i : ℕ) → more i ≡ true → good_if (slice_get us i) ≡ true) → (i : ℕ) → past k at more i ≡ true → good_if (slice_get (ts ++ us) i) ≡ true
+  past_good : (ts us : List ParseTree) (k : ℕ) (at more : ℕ → Bool) → length ts ≡ k → ((i : ℕ) → at i ≡ true → good_if (slice_get ts i) ≡ true)
+      → ((i : ℕ) → more i ≡ true → good_if (slice_get us i) ≡ true) → (i : ℕ) → past k at more i ≡ true → good_if (slice_get (ts ++ us) i) ≡ true
   past_good [] us zero at more long g h i e = h i e
   past_good [] us (suc k) at more long g h i e = absurd (omega (arith, long))
   past_good (t ∷ ts) us zero at more long g h i e = absurd (omega (arith, long))
   past_good (t ∷ ts) us (suc k) at more long g h zero e = g 0 e
   past_good (t ∷ ts) us (suc k) at more long g h (suc i) e = past_good ts us k (λ j. at (suc j)) more (omega (arith, long)) (λ j. g (suc j)) h i e
 
-  first_good_in : (ts us : List ParseTree) (n : Bool) → (n ≡ true → is_filled ts ≡ true) → good_if (slice_get ts 0) ≡ true → (n || good_if (slice_get us 0)) ≡ true → good_if (slice_get (ts ++ us) 0) ≡ true
+  first_good_in : (ts us : List ParseTree) (n : Bool) → (n ≡ true → is_filled ts ≡ true)
+      → good_if (slice_get ts 0) ≡ true → (n || good_if (slice_get us 0)) ≡ true → good_if (slice_get (ts ++ us) 0) ≡ true
   first_good_in [] us true f g e = let none = f refl in absurd (cc)
   first_good_in [] us false f g e = e
   first_good_in (t ∷ ts) us n f g e = g
@@ -142,12 +145,16 @@ module _ (good : ParseTree → Bool) where
   or_more true b c f e = refl
   or_more false b c f e = f e
 
-  turn_good : (m : Option ℕ) (n : Bool) (at more : ℕ → Bool) (ts us : List ParseTree) → ((k : ℕ) → m ≡ Some k → length ts ≡ k) → (n ≡ true → is_filled ts ≡ true) → ((i : ℕ) → at i ≡ true → good_if (slice_get ts i) ≡ true) → ((i : ℕ) → more i ≡ true → good_if (slice_get us i) ≡ true) → (i : ℕ) → at_in_turn m n at more i ≡ true → good_if (slice_get (ts ++ us) i) ≡ true
+  turn_good : (m : Option ℕ) (n : Bool) (at more : ℕ → Bool) (ts us : List ParseTree)
+      → ((k : ℕ) → m ≡ Some k → length ts ≡ k) → (n ≡ true → is_filled ts ≡ true) → ((i : ℕ) → at i ≡ true → good_if (slice_get ts i) ≡ true)
+      → ((i : ℕ) → more i ≡ true → good_if (slice_get us i) ≡ true) → (i : ℕ) → at_in_turn m n at more i ≡ true → good_if (slice_get (ts ++ us) i) ≡ true
   turn_good (Some k) n at more ts us long f g h i e = past_good ts us k at more (long k refl) g h i e
-  turn_good None n at more ts us long f g h zero e = first_good_in ts us n f (g 0 (both_left (at 0) (n || more 0) e)) (or_more n (more 0) (good_if (slice_get us 0)) (h 0) (both_right (at 0) (n || more 0) e))
+  turn_good None n at more ts us long f g h zero e =
+      first_good_in ts us n f (g 0 (both_left (at 0) (n || more 0) e)) (or_more n (more 0) (good_if (slice_get us 0)) (h 0) (both_right (at 0) (n || more 0) e))
   turn_good None n at more ts us long f g h (suc i) e = absurd (cc)
 
-  turn_long : (m m' : Option ℕ) (ts us : List ParseTree) → ((k : ℕ) → m ≡ Some k → length ts ≡ k) → ((k : ℕ) → m' ≡ Some k → length us ≡ k) → (k : ℕ) → sum_of m m' ≡ Some k → length (ts ++ us) ≡ k
+  turn_long : (m m' : Option ℕ) (ts us : List ParseTree) → ((k : ℕ) → m ≡ Some k → length ts ≡ k)
+      → ((k : ℕ) → m' ≡ Some k → length us ≡ k) → (k : ℕ) → sum_of m m' ≡ Some k → length (ts ++ us) ≡ k
   turn_long None m' ts us f g k e = absurd (cc)
   turn_long (Some a) None ts us f g k e = absurd (cc)
   turn_long (Some a) (Some b) ts us f g k e = let s : a + b ≡ k = cc in let l = f a refl in let r = g b refl in omega (arith, s, l, r, length-append ts us)
@@ -178,10 +185,12 @@ module _ (good : ParseTree → Bool) where
       by_test false same h = absurd (cc)
 
   pub left_spots : (a b : Spots) (ts : List ParseTree) → HasSpots a ts → HasSpots (spots_either a b) ts
-  left_spots (spots n m at) (spots n' m' more) ts h = record { filled = λ e. h.filled (both_left n n' e); long = left_long m m' (length ts) h.long; fits = λ i e. h.fits i (both_left (at i) (more i) e) }
+  left_spots (spots n m at) (spots n' m' more) ts h =
+      record { filled = λ e. h.filled (both_left n n' e); long = left_long m m' (length ts) h.long; fits = λ i e. h.fits i (both_left (at i) (more i) e) }
 
   pub right_spots : (a b : Spots) (ts : List ParseTree) → HasSpots b ts → HasSpots (spots_either a b) ts
-  right_spots (spots n m at) (spots n' m' more) ts h = record { filled = λ e. h.filled (both_right n n' e); long = right_long m m' (length ts) h.long; fits = λ i e. h.fits i (both_right (at i) (more i) e) }
+  right_spots (spots n m at) (spots n' m' more) ts h =
+      record { filled = λ e. h.filled (both_right n n' e); long = right_long m m' (length ts) h.long; fits = λ i e. h.fits i (both_right (at i) (more i) e) }
 
   pub one_good : (b : Bool) (t : ParseTree) → b ≡ good t → HasSpots (one_spot b) (t ∷ [])
   one_good b t same = record { filled = λ e. refl; long = λ k e. (cc); fits = at }
@@ -257,24 +266,45 @@ module _ (sort good : ParseTree → Bool) where
   last_append (t ∷ []) (u ∷ us) h c = h
   last_append (t ∷ v ∷ ts) us h c = last_append (v ∷ ts) us h c
 
-  follow_append : (ts us : List ParseTree) → follow_good ts ≡ true → follow_good us ≡ true → (last_free ts ≡ true) ⊎ (first_good us ≡ true) → follow_good (ts ++ us) ≡ true
+  follow_append : (ts us : List ParseTree) → follow_good ts ≡ true → follow_good us ≡ true
+      → (last_free ts ≡ true) ⊎ (first_good us ≡ true) → follow_good (ts ++ us) ≡ true
   follow_append [] us h k c = k
-  follow_append (t ∷ []) us h k c = both_of (not (sort t) || first_good us) (follow_good us) (⊎_elim (λ e. or_left (not (sort t)) (first_good us) e) (λ e. or_right (not (sort t)) (first_good us) e) c) k
-  follow_append (t ∷ v ∷ ts) us h k c = both_of (not (sort t) || good v) (follow_good ((v ∷ ts) ++ us)) (both_left (not (sort t) || good v) (follow_good (v ∷ ts)) h) (follow_append (v ∷ ts) us (both_right (not (sort t) || good v) (follow_good (v ∷ ts)) h) k c)
+  follow_append (t ∷ []) us h k c =
+      both_of (not (sort t) || first_good us) (follow_good us)
+      (⊎_elim (λ e. or_left (not (sort t)) (first_good us) e) (λ e. or_right (not (sort t)) (first_good us) e) c) k
+  follow_append (t ∷ v ∷ ts) us h k c =
+      both_of (not (sort t) || good v) (follow_good ((v ∷ ts) ++ us)) (both_left (not (sort t) || good v) (follow_good (v ∷ ts)) h)
+      (follow_append (v ∷ ts) us (both_right (not (sort t) || good v) (follow_good (v ∷ ts)) h) k c)
 
   pub turn_edges : (a b : Edges) (ts us : List ParseTree) → HasEdges a ts → HasEdges b us → HasEdges (edges_in_turn a b) (ts ++ us)
   turn_edges (edges n f l p) (edges n' f' l' p') ts us h k = record {
     filled = λ e. ⊎_elim (λ x. filled_before ts us (h.filled x)) (λ x. filled_behind ts us (k.filled x)) (or_cases n n' e);
-    first = λ e. first_append ts us (h.first (both_left f (n || f') e)) (⊎_elim (λ x. inl (h.filled x)) (λ x. inr (k.first x)) (or_cases n f' (both_right f (n || f') e)));
-    last = λ e. last_append ts us (k.last (both_left l' (n' || l) e)) (⊎_elim (λ x. inl (k.filled x)) (λ x. inr (h.last x)) (or_cases n' l (both_right l' (n' || l) e)));
-    follows = λ e. follow_append ts us (h.follows (both_left p p' (both_left (both p p') (l || f') e))) (k.follows (both_right p p' (both_left (both p p') (l || f') e))) (⊎_elim (λ x. inl (h.last x)) (λ x. inr (k.first x)) (or_cases l f' (both_right (both p p') (l || f') e)));
+    first = λ e. first_append ts us (h.first (both_left f (n || f') e))
+        (⊎_elim (λ x. inl (h.filled x)) (λ x. inr (k.first x)) (or_cases n f' (both_right f (n || f') e)));
+    last = λ e. last_append ts us (k.last (both_left l' (n' || l) e))
+        (⊎_elim (λ x. inl (k.filled x)) (λ x. inr (h.last x)) (or_cases n' l (both_right l' (n' || l) e)));
+    follows = λ e. follow_append ts us (h.follows (both_left p p' (both_left (both p p') (l || f') e)))
+        (k.follows (both_right p p' (both_left (both p p') (l || f') e)))
+        (⊎_elim (λ x. inl (h.last x)) (λ x. inr (k.first x)) (or_cases l f' (both_right (both p p') (l || f') e)));
   }
 
   pub left_edges : (a b : Edges) (ts : List ParseTree) → HasEdges a ts → HasEdges (edges_either a b) ts
-  left_edges (edges n f l p) (edges n' f' l' p') ts h = record { filled = λ e. h.filled (both_left n n' e); first = λ e. h.first (both_left f f' e); last = λ e. h.last (both_left l l' e); follows = λ e. h.follows (both_left p p' e) }
+  left_edges (edges n f l p) (edges n' f' l' p') ts h =
+      record {
+        filled = λ e. h.filled (both_left n n' e);
+        first = λ e. h.first (both_left f f' e);
+        last = λ e. h.last (both_left l l' e);
+        follows = λ e. h.follows (both_left p p' e);
+      }
 
   pub right_edges : (a b : Edges) (ts : List ParseTree) → HasEdges b ts → HasEdges (edges_either a b) ts
-  right_edges (edges n f l p) (edges n' f' l' p') ts h = record { filled = λ e. h.filled (both_right n n' e); first = λ e. h.first (both_right f f' e); last = λ e. h.last (both_right l l' e); follows = λ e. h.follows (both_right p p' e) }
+  right_edges (edges n f l p) (edges n' f' l' p') ts h =
+      record {
+        filled = λ e. h.filled (both_right n n' e);
+        first = λ e. h.first (both_right f f' e);
+        last = λ e. h.last (both_right l l' e);
+        follows = λ e. h.follows (both_right p p' e);
+      }
 
   pub never_edges : (a : Edges) → HasEdges (edges_often a) []
   never_edges (edges n f l p) = record { filled = λ e. absurd (cc); first = λ e. refl; last = λ e. refl; follows = λ e. refl }
@@ -284,14 +314,21 @@ module _ (sort good : ParseTree → Bool) where
     filled = λ e. absurd (cc);
     first = λ e. first_append ts us (h.first e) (inr (k.first e));
     last = λ e. last_append ts us (k.last e) (inr (h.last e));
-    follows = λ e. follow_append ts us (h.follows (both_left p (l || f) e)) (k.follows e) (⊎_elim (λ x. inl (h.last x)) (λ x. inr (k.first x)) (or_cases l f (both_right p (l || f) e)));
+    follows = λ e. follow_append ts us (h.follows (both_left p (l || f) e)) (k.follows e)
+        (⊎_elim (λ x. inl (h.last x)) (λ x. inr (k.first x)) (or_cases l f (both_right p (l || f) e)));
   }
 
   pub no_edges : (ts : List ParseTree) → HasEdges (edges false false false false) ts
   no_edges ts = record { filled = λ e. absurd (cc); first = λ e. absurd (cc); last = λ e. absurd (cc); follows = λ e. absurd (cc) }
 
   pub one_edge : (s t : ParseTree) → sort s ≡ sort t → good s ≡ good t → HasEdges (edges true (good s) (not (sort s)) true) (t ∷ [])
-  one_edge s t e g = record { filled = λ x. refl; first = λ x. sym g ∙ x; last = λ x. ap not (sym e) ∙ x; follows = λ x. both_of (not (sort t) || true) true (or_right (not (sort t)) true refl) refl }
+  one_edge s t e g =
+      record {
+        filled = λ x. refl;
+        first = λ x. sym g ∙ x;
+        last = λ x. ap not (sym e) ∙ x;
+        follows = λ x. both_of (not (sort t) || true) true (or_right (not (sort t)) true refl) refl;
+      }
 
   abbrev pub edge_way : IsOfLabel sort → IsOfLabel good → Way Edges HasEdges
   edge_way of_sort of_good = record {
@@ -352,7 +389,8 @@ count_append f ts us = ap (λ (l : List ParseTree). length l) (filter-append f t
 pub turn_balance : (a b : Balance) (ts us : List ParseTree) → IsBalance a ts → IsBalance b us → IsBalance (balance_in_turn a b) (ts ++ us)
 turn_balance unknown b ts us h k = tt
 turn_balance (balance x y) unknown ts us h k = tt
-turn_balance (balance x y) (balance z w) ts us h k = let m = count_append (selects s.Rules) ts us in let n = count_append (selects s.Tokens) ts us in omega (arith, h, k, m, n)
+turn_balance (balance x y) (balance z w) ts us h k = let m = count_append (selects s.Rules) ts us in
+    let n = count_append (selects s.Tokens) ts us in omega (arith, h, k, m, n)
 
 pub left_balance : (a b : Balance) (ts : List ParseTree) → IsBalance a ts → IsBalance (balance_either a b) ts
 left_balance unknown b ts h = tt
@@ -391,7 +429,8 @@ often_balance (balance x y) ts us h k = by_test (x == y) refl k
     same m n e = grind (arith, nat_tests)
 
     by_test : (t : Bool) → (x == y) ≡ t → IsBalance (when t (balance 0 0)) us → IsBalance (when t (balance 0 0)) (ts ++ us)
-    by_test true e k = let a = same x y e in let m = count_append (selects s.Rules) ts us in let n = count_append (selects s.Tokens) ts us in omega (arith, h, k, a, m, n)
+    by_test true e k = let a = same x y e in let m = count_append (selects s.Rules) ts us in
+        let n = count_append (selects s.Tokens) ts us in omega (arith, h, k, a, m, n)
     by_test false e k = tt
 
 abbrev pub balance_way : Way Balance IsBalance

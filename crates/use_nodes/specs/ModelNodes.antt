@@ -59,7 +59,14 @@ parents_node t = of r.Parents t (and_then (behind k.Less t) (λ names.
 
 abbrev pub class_node : ParseTree → Option ClassNode
 class_node t = of r.Class t (and_then (behind k.Class t) (λ name.
-    Some (record { is_abstract = has k.Abstract t; name = name; parents = part (s.Rule r.Parents) t; attributes = parts (s.Rule r.Attribute) t; operations = parts (s.Rule r.Oper) t; invariants = parts (s.Rule r.Inv) t })))
+    Some (record {
+      is_abstract = has k.Abstract t;
+      name = name;
+      parents = part (s.Rule r.Parents) t;
+      attributes = parts (s.Rule r.Attribute) t;
+      operations = parts (s.Rule r.Oper) t;
+      invariants = parts (s.Rule r.Inv) t;
+    })))
 
 abbrev pub mult_node : ParseTree → Option MultNode
 mult_node t = of r.Mult t (and_then (child 0 t) (λ low.
@@ -75,7 +82,13 @@ assoc_node t = of r.Assoc t (and_then (child 0 t) (λ kind. and_then (child 1 t)
 
 abbrev pub context_node : ParseTree → Option ContextNode
 context_node t = of r.Context t (and_then (behind k.Context t) (λ name.
-    Some (record { name = name; class = behind k.Colon t; head = behind k.DoubleColon t; invariants = parts (s.Rule r.Inv) t; conditions = parts (s.Rule r.Cond) t })))
+    Some (record {
+      name = name;
+      class = behind k.Colon t;
+      head = behind k.DoubleColon t;
+      invariants = parts (s.Rule r.Inv) t;
+      conditions = parts (s.Rule r.Cond) t;
+    })))
 
 abbrev pub constraints_node : ParseTree → Option ConstraintsNode
 constraints_node t = of r.Constraints t (Some (record { contexts = parts (s.Rule r.Context) t }))

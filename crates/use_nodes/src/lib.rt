@@ -7,7 +7,6 @@ mod law;
 mod models;
 mod node;
 mod parts;
-mod shown;
 mod statements;
 mod types;
 

@@ -5,6 +5,7 @@ ghost use Rattle.use_nodes.specs.Nodes.{behind, child, has, is_node, is_rule, al
 
 use crate::{Parts, Select};
 use grammar_core::{NodeNo, Tree};
+use std::fmt;
 use std::marker::Model;
 use use_syntax::Rule;
 use use_text::{Token, TokenKind};
@@ -176,22 +177,18 @@ impl<'a> NodeRef<'a> {
             [first, rest @ ..] => self.alone(*first)?.through(rest),
         }
     }
+}
 
-    /// The place of the first token of it.
-    pub(crate) fn first_token(&self) -> Option<u32> {
+impl fmt::Debug for NodeRef<'_> {
+    /// The place of its first token in the list of tokens.
+    fn fmt<W: fmt::Write>(&self, f: &mut fmt::Formatter<W>) -> fmt::Result {
         let mut number = self.number;
         'down: while let Some(first) = self.tree.child(number, 0) {
             number = first;
         }
-        self.tree.token(number)
-    }
-
-    /// The place of the last token of it.
-    pub(crate) fn last_token(&self) -> Option<u32> {
-        let mut number = self.number;
-        'down: while let Some(count) = self.tree.children(number).checked_sub(1) {
-            number = self.tree.child(number, count)?;
+        match self.tree.token(number) {
+            Some(place) => write!(f, "{place}"),
+            None => f.write_str("empty"),
         }
-        self.tree.token(number)
     }
 }

@@ -3,6 +3,7 @@ ghost use Rattle.std.specs.Iterator.{YieldsFirst, item_count};
 ghost use Rattle.use_nodes.specs.Nodes.{part, parts, second, selects};
 
 use crate::NodeRef;
+use std::fmt;
 use std::marker::Model;
 use use_syntax::Rule;
 use use_text::TokenKind;
@@ -76,6 +77,17 @@ impl<'a> Parts<'a> {
             at: self.at,
             select: self.select,
         }
+    }
+}
+
+impl fmt::Debug for Parts<'_> {
+    /// The nodes that are left.
+    fn fmt<W: fmt::Write>(&self, f: &mut fmt::Formatter<W>) -> fmt::Result {
+        f.write_str("[")?;
+        'nodes: for node in self.copy() {
+            write!(f, " {node:?}")?;
+        }
+        f.write_str(" ]")
     }
 }
 

@@ -24,11 +24,13 @@ move_all_leaves-each-preserved t c =
 pub move_leaves-move_all_leaves-requires : goal.move_leaves-move_all_leaves-requires
 move_leaves-move_all_leaves-requires t c =
     let whole : 2 * size_of c.args.v ≡ t = c.decreases in
-    let inside : size_of c.args.v ≡ 1 + sizes_of c.into_vec.result.items = ap size_of c.in-Coll.is ∙ size_of-Coll c.in-Coll.field-0 c.in-Coll.items ∙ ap (λ l. 1 + sizes_of l) (sym c.into_vec.ensures) in
+    let inside : size_of c.args.v ≡ 1 + sizes_of c.into_vec.result.items =
+    ap size_of c.in-Coll.is ∙ size_of-Coll c.in-Coll.field-0 c.in-Coll.items ∙ ap (λ l. 1 + sizes_of l) (sym c.into_vec.ensures) in
     let less : 2 * sizes_of c.into_vec.result.items + 1 < t = omega (arith, whole, inside) in
     (less, tt)
 
 pub move_leaves-returns-in-Coll : goal.move_leaves-returns-in-Coll
 move_leaves-returns-in-Coll t c =
-    let is : all_leaves c.into_vec.result.items ≡ leaves c.args.v = ap all_leaves c.into_vec.ensures ∙ sym (ap leaves c.in-Coll.is ∙ leaves_Coll c.in-Coll.field-0 c.in-Coll.items) in
+    let is : all_leaves c.into_vec.result.items ≡ leaves c.args.v =
+    ap all_leaves c.into_vec.ensures ∙ sym (ap leaves c.in-Coll.is ∙ leaves_Coll c.in-Coll.field-0 c.in-Coll.items) in
     subst (λ l. OnOk c.move_all_leaves.result (c.move_all_leaves.new.out.items ≡ c.args.out.now.items ++ l)) is c.move_all_leaves.ensures

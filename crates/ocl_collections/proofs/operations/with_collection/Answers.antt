@@ -10,5 +10,6 @@ of_pair-requires-clause-second c =
 pub returns-in-Coll : goal.returns-in-Coll
 returns-in-Coll c =
     subst (λ w. IfOk c.of_pair.result (λ v. v ≡ w))
-    (found c.args.argument.now c.in-Coll.other c.in-Coll.others c.as_slice.result.now (of_pair c.args.op c.args.kind c.args.items.now) c.in-Coll.is c.as_slice.ensures)
+    (found c.args.argument.now c.in-Coll.other c.in-Coll.others c.as_slice.result.now
+    (of_pair c.args.op c.args.kind c.args.items.now) c.in-Coll.is c.as_slice.ensures)
     c.of_pair.ensures

@@ -9,7 +9,8 @@ print-returns-in_ok-append-in-Coll-3 g t c =
     let object = g.N.Names.object_name c.args.names.now in
     let literal = g.N.Names.literal_name c.args.names.now in
     gathered _ _ _ _ _ _ _ _ _ (c.in_ok-append-in-Coll.ensures ∙ ap (λ k. c.args.out.now.items ++ k) c.kind_name.ensures) c.in_ok-append-in-Coll-2.ensures
-    (c.in_ok-print_elements-in-Coll.ensures ∙ ap (λ all. c.append-in-Coll-2.new.out.items ++ join_with_byte 44 (map (value_text object literal) all)) c.as_slice.ensures)
+    (c.in_ok-print_elements-in-Coll.ensures
+    ∙ ap (λ all. c.append-in-Coll-2.new.out.items ++ join_with_byte 44 (map (value_text object literal) all)) c.as_slice.ensures)
     c.in_ok-append-in-Coll-3.ensures
     ∙ ap (λ x. c.args.out.now.items ++ x) (sym (ap (value_text object literal) c.in-Coll.is ∙ value_text-Coll object literal c.in-Coll.kind c.in-Coll.items))
 

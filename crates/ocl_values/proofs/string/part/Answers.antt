@@ -10,7 +10,9 @@ use Rattle.ocl_values.proofs.string.part.Goals as goal
 
 pub returns : goal.returns
 returns c =
-    let skips = YieldsList-from_skip c.args.skipped (YieldsList-at c.skip.ensures.source (YieldsList-from_chars c.args.s.now c.utf8.s cc)) c.skip.ensures.count in
+    let skips = YieldsList-from_skip c.args.skipped
+    (YieldsList-at c.skip.ensures.source (YieldsList-from_chars c.args.s.now c.utf8.s cc)) c.skip.ensures.count in
     let takes = YieldsList-from_take c.args.count (YieldsList-at c.take.ensures.source skips) c.take.ensures.count in
-    let bytes : string_bytes c.in_ok-text.text ≡ encode_utf8_all (take c.args.count (drop c.args.skipped (chars c.args.s.now))) = text_from_collect {E = AllocError} (Ok c.in_ok-text.text) c.in_ok-text.ensures.ran takes in
+    let bytes : string_bytes c.in_ok-text.text ≡ encode_utf8_all (take c.args.count (drop c.args.skipped (chars c.args.s.now))) =
+    text_from_collect {E = AllocError} (Ok c.in_ok-text.text) c.in_ok-text.ensures.ran takes in
     ap Str (c.from_string.ensures ∙ bytes)

@@ -7,4 +7,5 @@ use Rattle.ocl_values.proofs.string.uppercase.Goals as goal
 pub returns : goal.returns
 returns c =
     ap Str
-    (c.from_string.ensures ∙ c.make_ascii_uppercase.ensures.bytes ∙ ap (map to_ascii_uppercase) c.in_ok-text.ensures.ok ∙ sym (uppercase_chars c.args.s.now c.utf8.s))
+    (c.from_string.ensures ∙ c.make_ascii_uppercase.ensures.bytes ∙ ap (map to_ascii_uppercase) c.in_ok-text.ensures.ok
+    ∙ sym (uppercase_chars c.args.s.now c.utf8.s))

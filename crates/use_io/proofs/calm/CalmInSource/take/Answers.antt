@@ -5,6 +5,8 @@ use Rattle.use_io.proofs.calm.CalmInSource.take.Goals as goal
 
 pub returns-clause-bytes : goal.returns-clause-bytes
 returns-clause-bytes c = (
-  ap (λ r. r.left) (sym c.self.view_is) ∙ front_and_rest c.self.inside.bytes.items c.args.buf.now c.copy_from_slice.new.self c.self.inside.at c.min-count.result (grind (arith, common_steps)) (omega arith),
+  ap (λ r. r.left) (sym c.self.view_is)
+      ∙ front_and_rest c.self.inside.bytes.items c.args.buf.now c.copy_from_slice.new.self c.self.inside.at c.min-count.result
+      (grind (arith, common_steps)) (omega arith),
   λ e h. nothing_past c.self.inside.bytes.items (c.self.inside.at + c.min-count.result) (omega arith),
 )

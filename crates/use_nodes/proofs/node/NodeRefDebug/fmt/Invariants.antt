@@ -1,5 +1,5 @@
 use Rattle.std.proofs.Common.{◌<◌, length}
-use Rattle.use_nodes.proofs.node.NodeRef.last_token.Given as goal
+use Rattle.use_nodes.proofs.node.NodeRefDebug.fmt.Given as goal
 
 abbrev pub invariant-down : goal.invariant-down
 invariant-down l = l.number < length l.self-inside.tree.now
