@@ -5,8 +5,3 @@ pub mod TextSets
 pub mod Backward
 pub mod Outside
 pub mod Given
-pub mod Upward
-pub mod Least
-pub mod Flags
-pub mod PlacedClasses
-pub mod Ordered

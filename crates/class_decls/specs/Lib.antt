@@ -2,10 +2,4 @@ pub mod Texts
 pub mod Entries
 pub mod Names
 pub mod References
-pub mod Numbering
-pub mod Ancestors
-pub mod Features
-pub mod Operations
 pub mod Limits
-pub mod ClassRules
-pub mod WellFormed

@@ -1,25 +1,15 @@
 -- How much a model may declare.
-use Rattle.std.specs.Prelude.{ℕ, ℤ, pos, Bool, true, false, ◌&&◌, ◌||◌, nat_lt, List, map, filter, length, take, count_by, Option, slice_get, find}
-use Rattle.std.specs.List.{flat_map, list_any}
+use Rattle.std.specs.Prelude.{ℤ, pos, Bool, true, false, ◌||◌, filter, take, Option, slice_get, find}
 use Rattle.std.specs.Option.{option_map, option_map_or, option_or}
-use Rattle.std.specs.Ordering.{int_cmp, nat_cmp, is_lt}
-use Rattle.std.specs.Cmp.Lexicographic.{slice_cmp}
-use Rattle.use_orders.specs.Canon.{set_of}
+use Rattle.std.specs.Ordering.{int_cmp, is_lt}
 use Rattle.use_text.specs.declared.place.Place.{Place}
-use Rattle.class_decls.specs.declared.decls.ClassDecl.{ClassDecl}
-use Rattle.class_decls.specs.declared.decls.CondDecl.{CondDecl}
 use Rattle.class_decls.specs.declared.decls.CondKind.{CondKind}
 use Rattle.class_decls.specs.declared.decls.CondKind.TheVariants.{Inv, Pre, Post}
 use Rattle.class_decls.specs.declared.decls.Decls.{Decls}
 use Rattle.class_decls.specs.declared.decls.EndDecl.{EndDecl}
 use Rattle.class_decls.specs.declared.decls.EnumDecl.{EnumDecl}
 use Rattle.class_decls.specs.declared.decls.MultPart.{MultPart}
-use Rattle.class_decls.specs.declared.decls.OpDecl.{OpDecl}
-use Rattle.class_decls.specs.Texts.{first_given, same_text}
-use Rattle.class_decls.specs.Names.{op_name, op_of}
-use Rattle.class_decls.specs.Ancestors.{above}
-use Rattle.class_decls.specs.Features.{attrs_of, first_in_classes, named_if}
-use Rattle.class_decls.specs.Operations.{first_op}
+use Rattle.class_decls.specs.Texts.{first_given}
 
 abbrev pub int_lt : ℤ → ℤ → Bool
 int_lt a b = is_lt (int_cmp a b)
@@ -42,14 +32,6 @@ bad_multiplicity ds = first_given (λ a. option_or (bad_part a.first) (bad_part 
 abbrev pub too_many_classes : Decls → Option Place
 too_many_classes ds = option_map (λ c. c.name.place) (slice_get ds.classes 200)
 
--- the names of the operations that classes declare, each once
-abbrev pub ops_of : List ClassDecl → List (List ℕ)
-ops_of classes = set_of (slice_cmp nat_cmp) (flat_map (λ c. map (λ op. op.name.text) c.ops) classes)
-
--- M14: too many attributes or operations
-abbrev pub too_many_features : Decls → Option Place
-too_many_features ds = first_in_classes (λ i c. named_if (nat_lt 64 (length (attrs_of (above ds i))) || nat_lt 64 (length (ops_of (above ds i)))) c) ds
-
 -- M15: too many associations
 abbrev pub too_many_assocs : Decls → Option Place
 too_many_assocs ds = option_map (λ a. a.name.place) (slice_get ds.assocs 200)
@@ -62,18 +44,6 @@ is_invariant (Post op) = false
 -- M16: too many invariants
 abbrev pub too_many_invariants : Decls → Option Place
 too_many_invariants ds = option_map (λ c. c.name.place) (slice_get (filter (λ c. is_invariant c.kind) ds.conds) 200)
-
--- whether a condition is a contract of the operation of a name
-abbrev pub is_contract_of : List ℕ → CondDecl → Bool
-is_contract_of text c = option_map_or (λ op. same_text (op_name op).text text) (op_of c.kind) false
-
--- the contracts of an operation, those of the declarations that it overrides included
-abbrev pub contract_count : Decls → List ClassDecl → OpDecl → ℕ
-contract_count ds classes op = count_by (λ c. is_contract_of op.name.text c && list_any (λ d. same_text d.name.text c.class.text) classes) ds.conds
-
--- M17: too many parameters or contracts
-abbrev pub too_many_contracts : Decls → Option Place
-too_many_contracts ds = first_in_classes (λ i. first_op (λ op. nat_lt 16 (length op.params) || nat_lt 64 (contract_count ds (above ds i) op))) ds
 
 -- the name of a literal past the last one that an enumeration may have
 abbrev pub excess_literal : EnumDecl → Option Place

@@ -55,7 +55,7 @@ impl Space {
 }
 
 /// What is declared under a name.
-pub(crate) trait Named {
+pub trait Named {
     ghost name_of: { Self → Name };
 
     /// Its name.
@@ -110,7 +110,7 @@ pub(crate) fn add_entries<T: Named>(
 }
 
 /// Adds the names of what is declared.
-pub(crate) fn add_texts<T: Named>(
+pub fn add_texts<T: Named>(
     alloc: Global,
     items: &[T],
     texts: &mut Vec<Text>,

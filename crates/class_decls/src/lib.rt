@@ -1,34 +1,24 @@
-//! What a model declares, and the rules by which its declarations are well formed.
+//! What a model declares, and the rules of a well-formed model that need no inheritance.
 #![tactic(auto)]
 
-mod ancestors;
-mod clash;
-mod class_rules;
-mod contracts;
-mod cycles;
 mod decls;
 mod entry;
-mod features;
-mod heads;
-mod hierarchy;
 mod limits;
 mod name_set;
 mod names;
-mod numbering;
-mod numbers;
-mod overriding;
-mod places;
 mod references;
 mod repeats;
-mod rules;
 
-pub use clash::Clash;
 pub use decls::{
     AssocDecl, AttrDecl, BodyKind, ClassDecl, CondDecl, CondKind, Decls, EndDecl, EnumDecl,
     MultPart, Name, OpDecl, OpOf, ParamDecl, TypeDecl,
 };
-pub use entry::{Entry, Space};
-pub use rules::{RuleFault, judge};
-
-#[cfg(test)]
-mod tests;
+pub use entry::{Entry, Named, Space, add_texts};
+pub use limits::{
+    bad_multiplicity, too_many_assocs, too_many_classes, too_many_invariants, too_many_literals,
+};
+pub use name_set::NameSet;
+pub use names::{
+    head_in, name_declared_twice, op_name, operation_declared_twice, parent_named_twice,
+};
+pub use references::unknown_type;

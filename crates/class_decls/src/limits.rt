@@ -27,14 +27,14 @@ fn place_past<T: Named>(items: &[T], most: usize) -> Option<Place>
 }
 
 /// M13: the first class past the most that there may be.
-pub(crate) fn too_many_classes(decls: &Decls) -> Option<Place>
+pub fn too_many_classes(decls: &Decls) -> Option<Place>
     ensures { result ≡ too_many_classes decls.now }
 {
     place_past(decls.classes.as_slice(), MOST)
 }
 
 /// M15: the first association past the most that there may be.
-pub(crate) fn too_many_assocs(decls: &Decls) -> Option<Place>
+pub fn too_many_assocs(decls: &Decls) -> Option<Place>
     ensures { result ≡ too_many_assocs decls.now }
 {
     place_past(decls.assocs.as_slice(), MOST)
@@ -60,7 +60,7 @@ fn first_excess_literal(enums: &[EnumDecl]) -> Option<Place>
 
 /// M18: the first enumeration past the most that there may be, or the first literal past the most
 /// of its enumeration.
-pub(crate) fn too_many_literals(decls: &Decls) -> Option<Place>
+pub fn too_many_literals(decls: &Decls) -> Option<Place>
     ensures { result ≡ too_many_literals decls.now }
 {
     let enums = decls.enums.as_slice();
@@ -107,7 +107,7 @@ fn first_bad_end(assocs: &[AssocDecl]) -> Option<Place>
 
 /// M11: the first part of a multiplicity whose bounds are in the wrong order, are too large, or
 /// allow nothing but 0.
-pub(crate) fn bad_multiplicity(decls: &Decls) -> Option<Place>
+pub fn bad_multiplicity(decls: &Decls) -> Option<Place>
     ensures { result ≡ bad_multiplicity decls.now }
 {
     first_bad_end(decls.assocs.as_slice())
@@ -136,7 +136,7 @@ fn invariant_place(conds: &[CondDecl], others: usize) -> Option<Place>
 }
 
 /// M16: the first invariant past the most that there may be.
-pub(crate) fn too_many_invariants(decls: &Decls) -> Option<Place>
+pub fn too_many_invariants(decls: &Decls) -> Option<Place>
     ensures { result ≡ too_many_invariants decls.now }
 {
     invariant_place(decls.conds.as_slice(), MOST)

@@ -8,7 +8,7 @@ use use_orders::{contains, set};
 
 /// Some texts, in order.
 #[derive(Debug, Drop)]
-pub(crate) struct NameSet {
+pub struct NameSet {
     texts: Vec<Text>,
 }
 
@@ -25,14 +25,14 @@ impl Model for NameSet {
 }
 
 impl NameSet {
-    pub(crate) fn of(texts: Vec<Text>) -> Result<NameSet, AllocError>
+    pub fn of(texts: Vec<Text>) -> Result<NameSet, AllocError>
         ensures { IfOk result (λ s. (t : List ℕ) → has_text s t ≡ has_text texts.items t) }
     {
         let texts = set(texts)?;
         Ok(NameSet { texts })
     }
 
-    pub(crate) fn contains(&self, text: &Text) -> bool
+    pub fn contains(&self, text: &Text) -> bool
         ensures { result ≡ has_text self.now text.now }
     {
         contains(self.texts.as_slice(), text)

@@ -18,7 +18,7 @@ pub(crate) static PLAIN_TYPES: [&str; 5] = ["Boolean", "Integer", "String", "Ocl
 static BOUND_NAMES: [&str; 2] = ["self", "result"];
 
 /// The operation whose contract it is.
-pub(crate) fn op_name(op: &OpOf) -> &Name
+pub fn op_name(op: &OpOf) -> &Name
     ensures { result.now ≡ op_name op.now }
 {
     match op {
@@ -41,7 +41,7 @@ fn cond_space(alloc: Global, class: &Name, kind: &CondKind) -> Result<Space, All
 }
 
 /// The head in the context of a contract.
-pub(crate) fn head_in(kind: &CondKind) -> Option<&OpDecl>
+pub fn head_in(kind: &CondKind) -> Option<&OpDecl>
     ensures { option_copied result ≡ head_in kind.now }
 {
     match kind {
@@ -186,7 +186,7 @@ fn add_ops(alloc: Global, classes: &[ClassDecl], names: &mut Vec<Entry>) -> Resu
 }
 
 /// M1: the first name that is declared for the second time in its space.
-pub(crate) fn name_declared_twice(alloc: Global, decls: &Decls) -> Result<Option<Place>, AllocError>
+pub fn name_declared_twice(alloc: Global, decls: &Decls) -> Result<Option<Place>, AllocError>
     ensures { IfOk result (λ place. place ≡ name_declared_twice decls.now) }
 {
     let mut names = Vec::new(alloc);
@@ -200,7 +200,7 @@ pub(crate) fn name_declared_twice(alloc: Global, decls: &Decls) -> Result<Option
 }
 
 /// M3: the first parent that a class names for the second time.
-pub(crate) fn parent_named_twice(alloc: Global, decls: &Decls) -> Result<Option<Place>, AllocError>
+pub fn parent_named_twice(alloc: Global, decls: &Decls) -> Result<Option<Place>, AllocError>
     ensures { IfOk result (λ place. place ≡ parent_named_twice decls.now) }
 {
     let mut names = Vec::new(alloc);
@@ -210,10 +210,7 @@ pub(crate) fn parent_named_twice(alloc: Global, decls: &Decls) -> Result<Option<
 }
 
 /// M7: the first operation that a class declares for the second time.
-pub(crate) fn operation_declared_twice(
-    alloc: Global,
-    decls: &Decls,
-) -> Result<Option<Place>, AllocError>
+pub fn operation_declared_twice(alloc: Global, decls: &Decls) -> Result<Option<Place>, AllocError>
     ensures { IfOk result (λ place. place ≡ operation_declared_twice decls.now) }
 {
     let mut names = Vec::new(alloc);

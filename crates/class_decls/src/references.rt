@@ -24,7 +24,7 @@ fn add_plain_types(alloc: Global, names: &[&str], texts: &mut Vec<Text>) -> Resu
 }
 
 /// The names of classes.
-pub(crate) fn class_names(alloc: Global, decls: &Decls) -> Result<NameSet, AllocError>
+fn class_names(alloc: Global, decls: &Decls) -> Result<NameSet, AllocError>
     ensures { IfOk result (λ s. (t : List ℕ) → has_text s t ≡ is_class decls.now t) }
 {
     let mut texts = Vec::new(alloc);
@@ -173,7 +173,7 @@ fn type_references<'a>(alloc: Global, decls: &'a Decls) -> Result<Vec<&'a Name>,
 }
 
 /// M2: the first name that is wanted to be that of a class or a type, and is none.
-pub(crate) fn unknown_type(alloc: Global, decls: &Decls) -> Result<Option<Place>, AllocError>
+pub fn unknown_type(alloc: Global, decls: &Decls) -> Result<Option<Place>, AllocError>
     ensures { IfOk result (λ place. place ≡ unknown_type decls.now) }
 {
     let classes = class_names(alloc, decls)?;

@@ -1,4 +1,0 @@
-use Rattle.class_decls.proofs.class_rules.too_many_features.Goals as goal
-
-pub returns : goal.returns
-returns c = c.in_ok-place.ensures

@@ -1,5 +1,0 @@
-use Rattle.class_decls.proofs.Flags.{IsNumberedSoFar}
-use Rattle.class_decls.proofs.numbering.numbering.Given as goal
-
-abbrev pub invariant-numbers : goal.invariant-numbers
-invariant-numbers l = IsNumberedSoFar l.parents l.done.items l.order.items l._number l.open

@@ -1,0 +1,5 @@
+pub mod Upward
+pub mod Least
+pub mod Flags
+pub mod PlacedClasses
+pub mod Ordered

@@ -1,0 +1,6 @@
+pub mod Numbering
+pub mod Ancestors
+pub mod Features
+pub mod Operations
+pub mod ClassRules
+pub mod WellFormed

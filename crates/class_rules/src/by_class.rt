@@ -1,0 +1,113 @@
+ghost use Rattle.std.specs.Prelude.{◌≡◌, IfOk};
+ghost use Rattle.class_rules.specs.ClassRules.{broken_by, first_broken, named_if};
+ghost use Rattle.class_decls.specs.Texts.{first_numbered};
+
+use crate::clash::{Clash, first_clash};
+use crate::contracts::first_too_many;
+use crate::features::{has_too_many_features, meets_attribute_twice, role_clashes};
+use crate::hierarchy::Hierarchy;
+use crate::overriding::is_ambiguous;
+use class_decls::ClassDecl;
+use std::alloc::{AllocError, Global};
+use use_text::Place;
+
+/// A rule that is judged class by class.
+#[derive(Clone, Copy, Debug, PartialEq, Eq)]
+pub enum ClassRule {
+    /// M5: an attribute is met twice.
+    AttributeMetTwice,
+    /// M6: a role is named as another role or an attribute.
+    RoleClashes,
+    /// M8: an operation has another signature than one that it overrides.
+    SignatureChanges,
+    /// M9: no declaration of an operation overrides all others.
+    OperationAmbiguous,
+    /// M10: a query overrides statements, or the contrary.
+    BodiesMixed,
+    /// M14: there are too many attributes or operations.
+    TooManyFeatures,
+    /// M17: an operation has too many parameters or contracts.
+    TooManyContracts,
+}
+
+fn named_if(broken: bool, class: &ClassDecl) -> Option<Place>
+    ensures { result ≡ named_if broken class.now }
+{
+    if broken { Some(class.name.place) } else { None }
+}
+
+/// Where a class that stands at a place breaks a rule.
+fn broken_at(
+    alloc: Global,
+    hierarchy: &Hierarchy<'_>,
+    rule: ClassRule,
+    place: usize,
+    class: &ClassDecl,
+) -> Result<Option<Place>, AllocError>
+    ensures { IfOk result (λ found. found ≡ broken_by rule hierarchy.now place class.now) }
+{
+    let decls = hierarchy.decls();
+    match rule {
+        ClassRule::AttributeMetTwice => {
+            let above = hierarchy.above(alloc, place)?;
+            let broken = meets_attribute_twice(alloc, above.as_slice())?;
+            Ok(named_if(broken, class))
+        }
+        ClassRule::RoleClashes => {
+            let above = hierarchy.above(alloc, place)?;
+            let broken = role_clashes(alloc, decls.assocs.as_slice(), above.as_slice())?;
+            Ok(named_if(broken, class))
+        }
+        ClassRule::SignatureChanges => {
+            let above = hierarchy.properly_above(alloc, place)?;
+            Ok(first_clash(Clash::Signature, class, above.as_slice()))
+        }
+        ClassRule::OperationAmbiguous => {
+            let numbers = hierarchy.ancestor_numbers(alloc, place)?;
+            let broken = is_ambiguous(alloc, hierarchy, numbers.as_slice())?;
+            Ok(named_if(broken, class))
+        }
+        ClassRule::BodiesMixed => {
+            let above = hierarchy.properly_above(alloc, place)?;
+            Ok(first_clash(Clash::Bodies, class, above.as_slice()))
+        }
+        ClassRule::TooManyFeatures => {
+            let above = hierarchy.above(alloc, place)?;
+            let broken = has_too_many_features(alloc, above.as_slice())?;
+            Ok(named_if(broken, class))
+        }
+        ClassRule::TooManyContracts => {
+            let above = hierarchy.above(alloc, place)?;
+            Ok(first_too_many(decls, class, above.as_slice()))
+        }
+    }
+}
+
+fn first_broken_among(
+    alloc: Global,
+    hierarchy: &Hierarchy<'_>,
+    rule: ClassRule,
+    classes: &[ClassDecl],
+) -> Result<Option<Place>, AllocError>
+    ensures { IfOk result (λ found. found ≡ first_numbered (broken_by rule hierarchy.now) 0 classes.now) }
+{
+    'classes: for (i, class) in classes.iter().enumerate() {
+        let found = broken_at(alloc, hierarchy, rule, i, class)?;
+        if found.is_some() {
+            return Ok(found);
+        }
+    }
+    Ok(None)
+}
+
+/// The first place at which a class breaks a rule.
+pub(crate) fn first_broken(
+    alloc: Global,
+    hierarchy: &Hierarchy<'_>,
+    rule: ClassRule,
+) -> Result<Option<Place>, AllocError>
+    ensures { IfOk result (λ found. found ≡ first_broken rule hierarchy.now) }
+{
+    let classes = hierarchy.decls().classes.as_slice();
+    first_broken_among(alloc, hierarchy, rule, classes)
+}

@@ -1,0 +1,155 @@
+ghost use Rattle.std.specs.Prelude.{◌≡◌, [], ◌∷◌, ◌++◌, ◌||◌, if◌then◌else◌, IfOk, OnOk, map, nat_lt, length};
+ghost use Rattle.std.specs.Cmp.Lexicographic.{slice_cmp};
+ghost use Rattle.std.specs.Ordering.{nat_cmp};
+ghost use Rattle.use_orders.specs.Canon.{set_of};
+ghost use Rattle.std.specs.List.{flat_map};
+ghost use Rattle.class_rules.specs.Features.{attrs_of, has_role_clash, meet, ops_of, roles_in, roles_of};
+ghost use Rattle.class_decls.specs.Texts.{repeats, same_text};
+
+use class_decls::{AssocDecl, ClassDecl, Name, NameSet, add_texts};
+use ocl_values::Text;
+use std::alloc::{AllocError, Global};
+use use_orders::set;
+
+/// The most attributes, and the most operations, of a class.
+const MOST_FEATURES: usize = 64;
+
+/// How many of some texts are different.
+fn count_different(texts: Vec<Text>) -> Result<usize, AllocError>
+    ensures { IfOk result (λ n. n ≡ length (set_of (slice_cmp nat_cmp) texts.items)) }
+{
+    let different = set(texts)?;
+    Ok(different.len())
+}
+
+/// Whether a text stands twice.
+fn has_repeat(texts: Vec<Text>) -> Result<bool, AllocError>
+    ensures { IfOk result (λ b. b ≡ repeats texts.items) }
+{
+    let count = texts.len();
+    let different = count_different(texts)?;
+    Ok(different < count)
+}
+
+/// The names of the attributes that classes declare.
+fn attr_texts(alloc: Global, classes: &[&ClassDecl]) -> Result<Vec<Text>, AllocError>
+    ensures { IfOk result (λ v. v.items ≡ attrs_of (map (λ c. c.now) classes.now)) }
+{
+    let mut texts = Vec::new(alloc);
+    'classes: for class in classes {
+        add_texts(alloc, class.attrs.as_slice(), &mut texts)?;
+    }
+    Ok(texts)
+}
+
+/// The names of the operations that classes declare.
+fn op_texts(alloc: Global, classes: &[&ClassDecl]) -> Result<Vec<Text>, AllocError>
+    ensures { IfOk result (λ v. v.items ≡ flat_map (λ c. map (λ op. op.name.text) c.ops) (map (λ c. c.now) classes.now)) }
+{
+    let mut texts = Vec::new(alloc);
+    'classes: for class in classes {
+        add_texts(alloc, class.ops.as_slice(), &mut texts)?;
+    }
+    Ok(texts)
+}
+
+/// Adds a role, if its owner is a class of a name.
+fn add_role(
+    alloc: Global,
+    class: &Name,
+    owner: &Name,
+    role: &Name,
+    texts: &mut Vec<Text>,
+) -> Result<(), AllocError>
+    ensures { OnOk result (texts.new.items ≡ texts.old.items ++ (if same_text owner.now.text class.now.text then role.now.text ∷ [] else [])) }
+{
+    if owner.text == class.text {
+        let text = Text::copy_of(alloc, role.text.as_str())?;
+        texts.push(text)?;
+    }
+    Ok(())
+}
+
+fn add_roles(
+    alloc: Global,
+    assocs: &[AssocDecl],
+    class: &ClassDecl,
+    texts: &mut Vec<Text>,
+) -> Result<(), AllocError>
+    ensures { OnOk result (texts.new.items ≡ texts.old.items ++ flat_map (λ a. roles_in a class.now) assocs.now) }
+{
+    'assocs: for assoc in assocs {
+        add_role(
+            alloc,
+            &class.name,
+            &assoc.first.class,
+            &assoc.second.role,
+            texts,
+        )?;
+        add_role(
+            alloc,
+            &class.name,
+            &assoc.second.class,
+            &assoc.first.role,
+            texts,
+        )?;
+    }
+    Ok(())
+}
+
+/// The roles at the other ends of the associations that classes take part in.
+fn role_texts(
+    alloc: Global,
+    assocs: &[AssocDecl],
+    classes: &[&ClassDecl],
+) -> Result<Vec<Text>, AllocError>
+    ensures { IfOk result (λ v. v.items ≡ roles_of assocs.now (map (λ c. c.now) classes.now)) }
+{
+    let mut texts = Vec::new(alloc);
+    'classes: for class in classes {
+        add_roles(alloc, assocs, class, &mut texts)?;
+    }
+    Ok(texts)
+}
+
+/// Whether an attribute is met twice in a class, given with its ancestors.
+pub(crate) fn meets_attribute_twice(alloc: Global, above: &[&ClassDecl]) -> Result<bool, AllocError>
+    ensures { IfOk result (λ b. b ≡ repeats (attrs_of (map (λ c. c.now) above.now))) }
+{
+    let texts = attr_texts(alloc, above)?;
+    let twice = has_repeat(texts)?;
+    Ok(twice)
+}
+
+/// Whether two lists have a text in common.
+fn meet(texts: &[Text], others: Vec<Text>) -> Result<bool, AllocError>
+    ensures { IfOk result (λ b. b ≡ meet texts.now others.items) }
+{
+    let others = NameSet::of(others)?;
+    Ok(texts.iter().any(|text| others.contains(text)))
+}
+
+/// Whether a role of a class, given with its ancestors, is named as another role or an attribute.
+pub(crate) fn role_clashes(
+    alloc: Global,
+    assocs: &[AssocDecl],
+    above: &[&ClassDecl],
+) -> Result<bool, AllocError>
+    ensures { IfOk result (λ b. b ≡ has_role_clash assocs.now (map (λ c. c.now) above.now)) }
+{
+    let roles = role_texts(alloc, assocs, above)?;
+    let attrs = attr_texts(alloc, above)?;
+    let meets = meet(roles.as_slice(), attrs)?;
+    let twice = has_repeat(roles)?;
+    Ok(twice || meets)
+}
+
+/// Whether a class, given with its ancestors, has too many attributes or operations.
+pub(crate) fn has_too_many_features(alloc: Global, above: &[&ClassDecl]) -> Result<bool, AllocError>
+    ensures { IfOk result (λ b. b ≡ (nat_lt 64 (length (attrs_of (map (λ c. c.now) above.now))) || nat_lt 64 (length (ops_of (map (λ c. c.now) above.now))))) }
+{
+    let attrs = attr_texts(alloc, above)?;
+    let ops = op_texts(alloc, above)?;
+    let different = count_different(ops)?;
+    Ok(attrs.len() > MOST_FEATURES || different > MOST_FEATURES)
+}

@@ -1,0 +1,25 @@
+//! The rules of a well-formed model that need inheritance, all rules in their order, and the classes
+//! of declarations by number.
+#![tactic(auto)]
+
+mod ancestors;
+mod by_class;
+mod clash;
+mod contracts;
+mod cycles;
+mod features;
+mod heads;
+mod hierarchy;
+mod numbering;
+mod numbers;
+mod overriding;
+mod places;
+mod rules;
+
+pub use by_class::ClassRule;
+pub use clash::Clash;
+pub use hierarchy::Hierarchy;
+pub use rules::{RuleFault, judge};
+
+#[cfg(test)]
+mod tests;

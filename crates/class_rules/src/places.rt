@@ -1,0 +1,94 @@
+ghost use Rattle.std.specs.Prelude.{◌≡◌, [], ◌++◌, List, ℕ, Some, None, IfOk, OnOk, if◌then◌else◌, map};
+ghost use Rattle.std.specs.BTreeMap.{get};
+ghost use Rattle.std.specs.Cmp.Lexicographic.{slice_cmp};
+ghost use Rattle.std.specs.List.{cons_option, filter_map, position_from};
+ghost use Rattle.std.specs.Option.{option_copied, option_or};
+ghost use Rattle.std.specs.Ordering.{nat_cmp};
+ghost use Rattle.class_rules.specs.Numbering.{class_at, parent_places};
+ghost use Rattle.class_decls.specs.Texts.{same_text};
+
+use class_decls::{ClassDecl, Decls, Name};
+use ocl_values::Text;
+use std::alloc::{AllocError, Global};
+use std::collections::BTreeMap;
+use use_lists::Items;
+
+/// Where the classes of names stand.
+pub(crate) type Places = BTreeMap<Text, usize>;
+
+fn add_place(places: &mut Places, text: Text, place: usize) -> Result<(), AllocError>
+    ensures { OnOk result ((t : List ℕ) → get (slice_cmp nat_cmp) places.new t ≡ option_or (get (slice_cmp nat_cmp) places.old t) (if same_text text t then Some place else None)) }
+{
+    if places.contains_key(&text) {
+        return Ok(());
+    }
+    places.insert(text, place)?;
+    Ok(())
+}
+
+fn places_of(alloc: Global, classes: &[ClassDecl]) -> Result<Places, AllocError>
+    ensures { IfOk result (λ m. (t : List ℕ) → get (slice_cmp nat_cmp) m t ≡ position_from (λ c. same_text c.name.text t) 0 classes.now) }
+{
+    let mut places = BTreeMap::new(alloc);
+    'classes: for (i, class) in classes.iter().enumerate() {
+        add_place(
+            &mut places,
+            Text::copy_of(alloc, class.name.text.as_str())?,
+            i,
+        )?;
+    }
+    Ok(places)
+}
+
+/// Where the classes stand.
+pub(crate) fn class_places(alloc: Global, decls: &Decls) -> Result<Places, AllocError>
+    ensures { IfOk result (λ m. (t : List ℕ) → get (slice_cmp nat_cmp) m t ≡ class_at decls.now t) }
+{
+    places_of(alloc, decls.classes.as_slice())
+}
+
+fn add_found(place: Option<&usize>, found: &mut Vec<usize>) -> Result<(), AllocError>
+    ensures { OnOk result (found.new.items ≡ found.old.items ++ cons_option (option_copied place.entry) []) }
+{
+    match place {
+        None => Ok(()),
+        Some(place) => {
+            found.push(*place)?;
+            Ok(())
+        }
+    }
+}
+
+fn parents_in(alloc: Global, places: &Places, parents: &[Name]) -> Result<Vec<usize>, AllocError>
+    ensures { IfOk result (λ v. v.items ≡ filter_map (λ p. get (slice_cmp nat_cmp) places.now p.text) parents.now) }
+{
+    let mut found = Vec::new(alloc);
+    'parents: for parent in parents {
+        add_found(places.get(&parent.text), &mut found)?;
+    }
+    Ok(found)
+}
+
+fn all_parents(
+    alloc: Global,
+    places: &Places,
+    classes: &[ClassDecl],
+) -> Result<Vec<Items<usize>>, AllocError>
+    ensures { IfOk result (λ v. v.items ≡ map (λ c. filter_map (λ p. get (slice_cmp nat_cmp) places.now p.text) c.parents) classes.now) }
+{
+    let mut rows = Vec::new(alloc);
+    'classes: for class in classes {
+        let row = parents_in(alloc, places, class.parents.as_slice())?;
+        rows.push(Items::from_vec(row))?;
+    }
+    Ok(rows)
+}
+
+/// Where the parents of each class stand.
+pub(crate) fn parent_places(alloc: Global, decls: &Decls) -> Result<Vec<Items<usize>>, AllocError>
+    ensures { IfOk result (λ v. v.items ≡ parent_places decls.now) }
+{
+    let places = class_places(alloc, decls)?;
+    let rows = all_parents(alloc, &places, decls.classes.as_slice())?;
+    Ok(rows)
+}
