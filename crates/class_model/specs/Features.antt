@@ -1,12 +1,13 @@
 -- What a class has: attributes, roles and operations, its own and inherited ones.
-use Rattle.std.specs.Prelude.{ℕ, Bool, ◌&&◌, nat_eq, if◌then◌else◌, List, [], ◌∷◌, map, Option, Some, None, find, slice_get, unwrap_or}
-use Rattle.std.specs.List.{enumerate_from, filter_map, flat_map, list_all, list_any, position_from}
+use Rattle.std.specs.Prelude.{ℕ, Bool, false, ◌&&◌, nat_eq, nat_lt, if◌then◌else◌, List, [], ◌∷◌, map, fold, Option, Some, None, find, slice_get, unwrap_or}
+use Rattle.std.specs.List.{enumerate_from, filter_map, list_all, position_from}
 use Rattle.std.specs.Option.{option_and_then, option_map_or}
 use Rattle.class_decls.specs.Texts.{first_numbered, same_text}
 use Rattle.class_model.specs.declared.numbers.End.{End}
 use Rattle.class_model.specs.declared.numbers.End.TheVariants.{First, Second}
 use Rattle.class_model.specs.declared.object_model.Association.{Association}
 use Rattle.class_model.specs.declared.object_model.Attribute.{Attribute}
+use Rattle.class_model.specs.declared.object_model.Enumeration.{Enumeration}
 use Rattle.class_model.specs.declared.object_model.ObjectModel.{ObjectModel}
 use Rattle.class_model.specs.declared.object_model.Operation.{Operation}
 use Rattle.class_model.specs.Inheritance.{is_a}
@@ -36,50 +37,75 @@ derived_attrs m c = attributes_among m m.derived c
 abbrev pub derived : ObjectModel → ℕ → List ℕ → Option ℕ
 derived m c name = attribute_among m m.derived c name
 
--- the end of an association that a class sees under a name
+-- the end of an association that stands opposite a class of these, under a name
+abbrev pub end_seen : (ℕ → Bool) → List ℕ → Association → Option End
+end_seen is_one name a =
+    if is_one a.second.class && same_text a.first.role name then Some First
+    else (if is_one a.first.class && same_text a.second.role name then Some Second else None)
+
+-- the end that a class sees under a name
 abbrev pub end_named : ObjectModel → ℕ → List ℕ → Association → Option End
-end_named m c name a =
-    if is_a m c a.second.class && same_text a.first.role name then Some First
-    else (if is_a m c a.first.class && same_text a.second.role name then Some Second else None)
+end_named m c name a = end_seen (is_a m c) name a
 
 -- the role of a name: an association, and the end at which it stands
 abbrev pub role : ObjectModel → ℕ → List ℕ → Option (ℕ × End)
 role m c name = first_numbered (λ number a. option_and_then (λ e. Some (number, e)) (end_named m c name a)) 0 m.assocs
 
+-- whether a class of these declares an operation of a name
+abbrev pub declares : (ℕ → Bool) → List ℕ → Operation → Bool
+declares is_one name op = is_one op.class && same_text op.name name
+
 -- whether a class has a declaration of an operation of a name
 abbrev pub has_operation : ObjectModel → ℕ → List ℕ → Operation → Bool
-has_operation m c name op = is_a m c op.class && same_text op.name name
+has_operation m c name op = declares (is_a m c) name op
+
+-- the operations that classes of these declare; one that is declared again stands once, at its first declaration
+abbrev pub listed_by : (ℕ → Bool) → List Operation → List ℕ
+listed_by is_one ops =
+    filter_map
+    (λ p. if is_one p.1.class && option_map_or (nat_eq p.0) (position_from (declares is_one p.1.name) 0 ops) false then Some p.0 else None)
+    (enumerate_from 0 ops)
 
 -- the operations of a class, inherited ones first; one that is overridden stands once, at its first declaration
 abbrev pub ops : ObjectModel → ℕ → List ℕ
-ops m c = filter_map (λ p. if is_a m c p.1.class && option_map_or (nat_eq p.0) (position_from (has_operation m c p.1.name) 0 m.ops) false then Some p.0 else None) (enumerate_from 0 m.ops)
+ops m c = listed_by (is_a m c) m.ops
 
 -- the declarations of an operation of a name that a class has
 abbrev pub declarations : ObjectModel → ℕ → List ℕ → List ℕ
 declarations m c name = numbers_of (has_operation m c name) m.ops
 
+-- the class of the declaration of a number
+abbrev pub class_at : List Operation → ℕ → ℕ
+class_at ops o = option_map_or (λ op. op.class) (slice_get ops o) 0
+
 -- whether the declaration of a number overrides another, or is it
 abbrev pub overrides : ObjectModel → ℕ → ℕ → Bool
-overrides m o p = option_map_or (λ op. option_map_or (λ other. is_a m op.class other.class) (slice_get m.ops p) false) (slice_get m.ops o) false
+overrides m o p = is_a m (class_at m.ops o) (class_at m.ops p)
+
+-- of some declarations, the one whose class inherits from those of all others
+abbrev pub chosen_by : (ℕ → ℕ → Bool) → List Operation → List ℕ → Option ℕ
+chosen_by inherits ops os = find (λ o. list_all (λ p. inherits (class_at ops o) (class_at ops p)) os) os
 
 -- the declaration that overrides all others of its name
 abbrev pub operation : ObjectModel → ℕ → List ℕ → Option ℕ
-operation m c name = find (λ o. list_all (overrides m o) (declarations m c name)) (declarations m c name)
+operation m c name = chosen_by (is_a m) m.ops (declarations m c name)
 
 -- the declaration that an object of a class carries out, where an operation is called by a declaration
 abbrev pub dispatch : ObjectModel → ℕ → ℕ → ℕ
 dispatch m c o = option_map_or (λ op. if is_a m c op.class then unwrap_or (operation m c op.name) o else o) (slice_get m.ops o) o
 
 -- the literal of a name in an enumeration
+abbrev pub literal_in : Enumeration → List ℕ → Option ℕ
+literal_in e name = position_from (λ text. same_text text name) 0 e.literals
+
 abbrev pub literal : ObjectModel → ℕ → List ℕ → Option ℕ
-literal m e name = option_and_then (λ enumeration. position_from (λ text. same_text text name) 0 enumeration.literals) (slice_get m.enums e)
+literal m e name = option_and_then (λ enumeration. literal_in enumeration name) (slice_get m.enums e)
 
--- the literals of a name in all enumerations
-abbrev pub literals_named : ObjectModel → List ℕ → List (ℕ × ℕ)
-literals_named m name =
-    filter_map (λ p. option_and_then (λ number. Some (p.0, number)) (position_from (λ text. same_text text name) 0 p.1.literals)) (enumerate_from 0 m.enums)
+-- the literals of a name in enumerations
+abbrev pub literals_in : List Enumeration → List ℕ → List (ℕ × ℕ)
+literals_in enums name = filter_map (λ p. option_and_then (λ number. Some (p.0, number)) (literal_in p.1 name)) (enumerate_from 0 enums)
 
--- the one literal of a list
+-- the one element of a list
 abbrev pub only : {A : Type 0} → List A → Option A
 only [] = None
 only (x ∷ []) = Some x
@@ -87,7 +113,7 @@ only (x ∷ y ∷ rest) = None
 
 -- the literal of the only enumeration that has the name
 abbrev pub only_literal : ObjectModel → List ℕ → Option (ℕ × ℕ)
-only_literal m name = only (literals_named m name)
+only_literal m name = only (literals_in m.enums name)
 
 -- classes, enumerations and associations by name
 abbrev pub class_named : ObjectModel → List ℕ → Option ℕ

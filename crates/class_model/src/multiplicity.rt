@@ -39,7 +39,10 @@ impl Multiplicity {
     pub fn greatest_is_one(&self) -> bool
         ensures { result ≡ greatest_is_one self.now }
     {
-        self.spans.as_slice().iter().all(|span| span.high == Some(1))
+        self.spans
+            .as_slice()
+            .iter()
+            .all(|span| span.high == Some(1))
     }
 
     /// The parts as they are declared, joined by commas.
