@@ -5,7 +5,7 @@ use Rattle.std.specs.Option.{option_map_or}
 use Rattle.ocl_values.specs.declared.value.Kind.{Kind}
 use Rattle.ocl_values.specs.contracts.value.KindPartialEq.TheImpl.{ghosts as kind_ghosts}
 use Rattle.class_model.specs.declared.object_model.ObjectModel.{ObjectModel}
-use Rattle.class_model.specs.declared.types.OclType.{OclType}
+use Rattle.class_model.specs.declared.types.OclType.{OclType, more_of-OclType}
 use Rattle.class_model.specs.declared.types.OclType.TheVariants as T
 use Rattle.class_model.specs.Inheritance.{ancestors, is_a}
 
@@ -26,7 +26,7 @@ conforms m T.Int T.Int = true
 conforms m T.Str T.Str = true
 conforms m (T.Enum e) (T.Enum f) = nat_eq e f
 conforms m (T.Class c) (T.Class d) = is_a m c d
-conforms m (T.Coll k a) (T.Coll l b) = kind_ghosts.eq k l && conforms m a b
+conforms m (T.Coll' k s (more_of-OclType a r)) (T.Coll' l t (more_of-OclType b q)) = kind_ghosts.eq k l && conforms m a b
 conforms m a b = false
 
 -- the common ancestors of two classes
@@ -45,5 +45,6 @@ wider m a b other = if conforms m a b then b else (if conforms m b a then a else
 -- collections of one kind that kind of the join of their elements; else OclAny
 abbrev pub join : ObjectModel → OclType → OclType → OclType
 join m (T.Class c) (T.Class d) = wider m (T.Class c) (T.Class d) (option_map_or T.Class (lowest m (common_ancestors m c d)) T.Any)
-join m (T.Coll k a) (T.Coll l b) = wider m (T.Coll k a) (T.Coll l b) (if kind_ghosts.eq k l then T.Coll k (join m a b) else T.Any)
+join m (T.Coll' k s (more_of-OclType a r)) (T.Coll' l t (more_of-OclType b q)) =
+    wider m (T.Coll k a) (T.Coll l b) (if kind_ghosts.eq k l then T.Coll k (join m a b) else T.Any)
 join m a b = wider m a b T.Any

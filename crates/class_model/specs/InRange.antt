@@ -1,9 +1,8 @@
 -- Which numbers the parts of a model may hold, and how many parts there may be.
-use Rattle.std.specs.Prelude.{ℕ, ⊤, ◌<◌, ◌≤◌, ◌^◌, length, All, ForSome}
-use Rattle.ocl_values.specs.declared.value.Kind.{Kind}
-use Rattle.class_model.specs.declared.object_model.AssociationEnd.{AssociationEnd}
+use Rattle.std.specs.Prelude.{ℕ, ⊤, ◌<◌, ◌≤◌, ◌^◌, length, All}
+use Rattle.std.specs.Option.{ForSome}
 use Rattle.class_model.specs.declared.object_model.ObjectModel.{ObjectModel}
-use Rattle.class_model.specs.declared.types.OclType.{OclType}
+use Rattle.class_model.specs.declared.types.OclType.{OclType, more_of-OclType}
 use Rattle.class_model.specs.declared.types.OclType.TheVariants as T
 use Rattle.class_model.specs.Inheritance.{IsAcyclic}
 
@@ -16,7 +15,7 @@ IsTypeAmong classes enums T.Int = ⊤
 IsTypeAmong classes enums T.Str = ⊤
 IsTypeAmong classes enums (T.Enum e) = e < enums
 IsTypeAmong classes enums (T.Class c) = c < classes
-IsTypeAmong classes enums (T.Coll kind element) = IsTypeAmong classes enums element
+IsTypeAmong classes enums (T.Coll' kind shape (more_of-OclType element rest)) = IsTypeAmong classes enums element
 
 -- a type of a model
 abbrev pub IsTypeOf : ObjectModel → OclType → Type 0

@@ -3,8 +3,8 @@ use Rattle.std.specs.Prelude.{◌≡◌, ◌<◌, ◌||◌, ℕ, Bool, false, na
 use Rattle.std.specs.BTreeMap.{BTreeMap, get_by_text}
 use Rattle.std.specs.Option.{option_and_then}
 use Rattle.std.specs.declared.string.String.{String}
-use Rattle.class_rules.specs.Ancestors as rows
-use Rattle.class_rules.specs.Numbering.{is_among}
+use Rattle.class_model.specs.Above as rows
+use Rattle.class_model.specs.Above.{is_among}
 use Rattle.class_model.specs.declared.class_index.ClassIndex.{ClassIndex}
 use Rattle.class_model.specs.declared.object_model.Enumeration.{Enumeration}
 use Rattle.class_model.specs.declared.object_model.ObjectModel.{ObjectModel}
@@ -34,6 +34,10 @@ later ops (Some b) o = if nat_lt (has.class_at ops b) (has.class_at ops o) then 
 
 abbrev pub latest : List Operation → List ℕ → Option ℕ
 latest ops os = fold (λ best o. Some (later ops best o)) None os
+
+-- the last element of a list
+abbrev pub last_of : List ℕ → Option ℕ
+last_of xs = fold (λ last x. Some x) None xs
 
 -- what a class has, by number and by name
 pub record IsIndexOf (m : ObjectModel) (c : ℕ) (index : ClassIndex) : Type 0 where

@@ -1,3 +1,4 @@
+pub mod Above
 pub mod Ends
 pub mod Multiplicities
 pub mod Inheritance

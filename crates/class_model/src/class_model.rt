@@ -34,6 +34,11 @@ impl Model for ClassModel {
 
     ghost Value = { ObjectModel };
 
+    ghost use Rattle.class_model.specs.contracts.types.OclType as of_types;
+    ghost use Rattle.std.specs.Coded.{codes};
+
+    ghost coded = { Prim.hlevel (codes, of_types.the_row.coded) };
+
     ghost view = { λ m. m.model };
 
     ghost use Rattle.class_model.specs.Indexed.{IsIndexed};

@@ -1,6 +1,7 @@
-ghost use Rattle.std.specs.Prelude.{◌≡◌, ◌<◌, IfOk, find, filter, length};
+ghost use Rattle.std.specs.Prelude.{◌≡◌, ◌<◌, ◌||◌, IfOk, length, not};
 ghost use Rattle.std.specs.List.{list_all};
 ghost use Rattle.class_model.specs.Conformance.{common_ancestors, conforms, join, lowest};
+ghost use Rattle.class_model.specs.Indexes.{last_of};
 ghost use Rattle.class_model.specs.InRange.{IsTypeOf};
 ghost use Rattle.class_model.specs.Inheritance.{is_a};
 
@@ -29,15 +30,34 @@ impl ClassModel {
         }
     }
 
-    /// Whether a class is a common ancestor of another that inherits from all such.
+    /// The last common ancestor of two classes.
+    fn last_common(&self, a: ClassNo, b: ClassNo) -> Option<ClassNo>
+        requires { a < length self.now.classes }
+        ensures { result ≡ last_of (common_ancestors self.now a b) }
+    {
+        let mut last = None;
+        'ancestors: for class in self.ancestors(a) {
+            if self.is_a(b, *class) {
+                last = Some(*class);
+            }
+        }
+        last
+    }
+
+    /// Whether a class inherits from another where that is an ancestor of a third.
+    fn covers(&self, class: ClassNo, other: ClassNo, b: ClassNo) -> bool
+        ensures { result ≡ (not (is_a self.now b other) || is_a self.now class other) }
+    {
+        !self.is_a(b, other) || self.is_a(class, other)
+    }
+
+    /// Whether a class inherits from all common ancestors of two classes.
     fn is_lowest(&self, class: ClassNo, a: ClassNo, b: ClassNo) -> bool
         requires { a < length self.now.classes }
         ensures { result ≡ list_all (is_a self.now class) (common_ancestors self.now a b) }
     {
         let ancestors = self.ancestors(a);
-        ancestors
-            .iter()
-            .all(|other| !self.is_a(b, *other) || self.is_a(class, *other))
+        ancestors.iter().all(|other| self.covers(class, *other, b))
     }
 
     /// The common ancestor of two classes that inherits from all others.
@@ -45,12 +65,7 @@ impl ClassModel {
         requires { a < length self.now.classes }
         ensures { result ≡ lowest self.now (common_ancestors self.now a b) }
     {
-        let ancestors = self.ancestors(a);
-        let last = ancestors
-            .iter()
-            .copied()
-            .filter(|class| self.is_a(b, *class))
-            .last()?;
+        let last = self.last_common(a, b)?;
         if self.is_lowest(last, a, b) {
             Some(last)
         } else {

@@ -1,8 +1,9 @@
 ghost use Rattle.std.specs.Prelude.{◌≡◌, ◌<◌, ◌≤◌, ◌^◌, ◌||◌, ℕ, [], ◌∷◌, ◌++◌, nat_eq, if◌then◌else◌, IfOk, OnOk, filter, length, map};
 ghost use Rattle.std.specs.List.{list_any, range_with_len};
-ghost use Rattle.class_rules.specs.Ancestors.{IsDownward};
+ghost use Rattle.class_model.specs.Above.{IsDownward};
 ghost use Rattle.class_model.specs.Indexes.{IsTable, above, flag, flag_in};
 
+use crate::lists::push_if;
 use crate::{Class, ClassNo};
 use std::alloc::{AllocError, Global};
 use use_lists::Items;
@@ -34,11 +35,18 @@ pub(crate) fn is_above(rows: &[Items<bool>], class: ClassNo, other: ClassNo) -> 
     other == class || flag(rows, class, other)
 }
 
+/// Whether one of some classes is another or inherits from it.
+fn is_above_any(rows: &[Items<bool>], classes: &[ClassNo], other: ClassNo) -> bool
+    ensures { result ≡ list_any (λ p. above rows.now p other) classes.now }
+{
+    classes.iter().any(|class| is_above(rows, *class, other))
+}
+
 /// Whether a class is another, or has a parent that inherits from it.
 fn inherits(rows: &[Items<bool>], parents: &[ClassNo], class: ClassNo, other: ClassNo) -> bool
     ensures { result ≡ (nat_eq other class || list_any (λ p. above rows.now p other) parents.now) }
 {
-    other == class || parents.iter().any(|parent| is_above(rows, *parent, other))
+    other == class || is_above_any(rows, parents, other)
 }
 
 /// Which of so many classes a class is or inherits from, given the rows of its parents.
@@ -88,8 +96,9 @@ pub(crate) fn classes_above(
 ) -> Result<Items<ClassNo>, AllocError>
     ensures { IfOk result (λ v. v ≡ filter (above rows.now class) (range_with_len 0 count)) }
 {
-    let classes = (0..count)
-        .filter(|other| is_above(rows, class, *other))
-        .collect(alloc)?;
+    let mut classes = Vec::new(alloc);
+    'classes: for other in 0..count {
+        push_if(&mut classes, is_above(rows, class, other), other)?;
+    }
     Ok(Items::from_vec(classes))
 }

@@ -1,7 +1,7 @@
-ghost use Rattle.std.specs.Prelude.{◌≡◌, ◌<◌, ◌≤◌, ◌^◌, ℕ, List, Some, None, IfOk, OnOk, All, if◌then◌else◌, is_some, length, nat_eq};
+ghost use Rattle.std.specs.Prelude.{◌≡◌, ◌<◌, ◌≤◌, ◌^◌, ◌&&◌, ℕ, List, Some, None, IfOk, OnOk, All, if◌then◌else◌, is_some, length};
 ghost use Rattle.std.specs.BTreeMap.{get_by_text};
 ghost use Rattle.std.specs.List.{position_from};
-ghost use Rattle.std.specs.Option.{option_map, option_map_or};
+ghost use Rattle.std.specs.Option.{option_and_then};
 ghost use Rattle.class_decls.specs.Texts.{same_text};
 ghost use Rattle.class_model.specs.Features.{literals_in};
 ghost use Rattle.class_model.specs.Indexes.{AreLiteralTables, one_more, one_or_several};
@@ -31,6 +31,17 @@ pub(crate) fn literals_by_name(
     Ok(tables)
 }
 
+/// A literal where its name stands for none yet, and nothing where it does.
+fn first_only(map: &OnlyLiterals, name: &str, literal: (EnumNo, LitNo)) -> Option<(EnumNo, LitNo)>
+    ensures { result ≡ (if is_some (get_by_text map.now name.now) then None else Some literal) }
+{
+    if map.contains_key(name) {
+        None
+    } else {
+        Some(literal)
+    }
+}
+
 fn add_literal_if(
     alloc: Global,
     map: &mut OnlyLiterals,
@@ -43,11 +54,7 @@ fn add_literal_if(
     if !holds {
         return Ok(());
     }
-    let value = if map.contains_key(name) {
-        None
-    } else {
-        Some(literal)
-    };
+    let value = first_only(map, name, literal);
     put(alloc, map, name, value)
 }
 
@@ -60,7 +67,7 @@ fn add_literals(
 ) -> Result<(), AllocError>
     requires small { length literals.now ≤ 2 ^ 32 }
     requires table { (t : List ℕ) → get_by_text table.now t ≡ position_from (λ x. same_text x t) 0 literals.now }
-    ensures { OnOk result ((t : List ℕ) → get_by_text map.new t ≡ one_more (get_by_text map.old t) (option_map (λ l. (number, l)) (position_from (λ x. same_text x t) 0 literals.now))) }
+    ensures { OnOk result ((t : List ℕ) → get_by_text map.new t ≡ one_more (get_by_text map.old t) (option_and_then (λ l. Some (number, l)) (position_from (λ x. same_text x t) 0 literals.now))) }
 {
     'literals: for (i, literal) in literals.iter().enumerate() {
         let name = literal.as_str();

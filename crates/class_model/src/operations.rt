@@ -138,19 +138,26 @@ fn latest_declarations(
 
 /// Whether the declaration that stands under a name is in a class that does not inherit from
 /// another.
-fn misses(
+fn misses(map: &ByName<OpNo>, ops: &[Operation], rows: &[Items<bool>], op: &Operation) -> bool
+    ensures { result ≡ option_map_or (λ best. not (above rows.now (class_at ops.now best) op.now.class)) (get_by_text map.now op.now.name) false }
+{
+    match map.get(op.name.as_str()) {
+        None => false,
+        Some(best) => !is_above(rows, class_at(ops, *best), op.class),
+    }
+}
+
+/// Whether what stands under the name of a declaration of a class does not override it.
+fn is_missed(
     map: &ByName<OpNo>,
     ops: &[Operation],
     rows: &[Items<bool>],
-    name: &str,
-    other: ClassNo,
+    class: ClassNo,
+    op: &Operation,
 ) -> bool
-    ensures { result ≡ option_map_or (λ best. not (above rows.now (class_at ops.now best) other)) (get_by_text map.now name.now) false }
+    ensures { result ≡ (above rows.now class op.now.class && option_map_or (λ best. not (above rows.now (class_at ops.now best) op.now.class)) (get_by_text map.now op.now.name) false) }
 {
-    match map.get(name) {
-        None => false,
-        Some(best) => !is_above(rows, class_at(ops, *best), other),
-    }
+    is_above(rows, class, op.class) && misses(map, ops, rows, op)
 }
 
 fn remove_if(map: &mut ByName<OpNo>, holds: bool, name: &str)
@@ -166,9 +173,8 @@ fn keep_overriding(map: &mut ByName<OpNo>, ops: &[Operation], rows: &[Items<bool
     ensures { (t : List ℕ) → get_by_text map.new t ≡ option_and_then (λ best. if list_all (λ p. above rows.now (class_at ops.now best) (class_at ops.now p)) (numbers_of (declares (above rows.now class) t) ops.now) then Some best else None) (get_by_text map.old t) }
 {
     'ops: for op in ops {
-        let name = op.name.as_str();
-        let holds = is_above(rows, class, op.class) && misses(map, ops, rows, name, op.class);
-        remove_if(map, holds, name);
+        let holds = is_missed(map, ops, rows, class, op);
+        remove_if(map, holds, op.name.as_str());
     }
 }
 
