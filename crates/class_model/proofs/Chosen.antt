@@ -7,26 +7,17 @@ use Rattle.std.proofs.lemmas.List.Folds.{list_all-append}
 use Rattle.std.proofs.lemmas.List.Sums.{fold-append}
 use Rattle.class_model.specs.declared.object_model.Operation.{Operation}
 use Rattle.class_model.specs.Features.{chosen_by, class_at}
-use Rattle.class_model.specs.Indexes.{later, latest}
-use Rattle.class_model.proofs.Greatest.{greater, greatest, greatest_found}
+use Rattle.class_model.specs.Indexes.{greater_by, latest}
+use Rattle.class_model.proofs.Greatest.{greatest_found, greatest_more}
 
 -- one declaration more, where it is of the name
-pub latest_more : (ops : List Operation) (os : List ℕ) (b : Bool) (i : ℕ) → cond b (Some (later ops (latest ops os) i)) (latest ops os) ≡ latest ops (os ++ cond b (i ∷ []) [])
-latest_more ops os true i = sym (fold-append (λ best o. Some (later ops best o)) None os (i ∷ []))
-latest_more ops os false i = sym (fold-append (λ best o. Some (later ops best o)) None os [])
-
-later_is : (ops : List Operation) (best : Option ℕ) (o : ℕ) → later ops best o ≡ greater (class_at ops) best o
-later_is ops None o = refl
-later_is ops (Some b) o = refl
-
-latest_is : (ops : List Operation) (os : List ℕ) → latest ops os ≡ greatest (class_at ops) None os
-latest_is ops os = ap (λ f. fold (λ best o. Some (f best o)) None os) (fun_ext (λ best. fun_ext (later_is ops best)))
+pub latest_more : (ops : List Operation) (os : List ℕ) (b : Bool) (i : ℕ) → cond b (Some (greater_by (class_at ops) (latest ops os) i)) (latest ops os) ≡ latest ops (os ++ cond b (i ∷ []) [])
+latest_more ops os b i = greatest_more (class_at ops) os b i
 
 pub chosen_is : (r : ℕ → ℕ → Bool) → ((a b : ℕ) → r a b ≡ true → b ≤ a) → (ops : List Operation) (os : List ℕ) →
     option_and_then (λ best. cond (list_all (λ p. r (class_at ops best) (class_at ops p)) os) (Some best) None) (latest ops os) ≡ chosen_by r ops os
 chosen_is r low ops os =
-    ap (option_and_then (λ best. cond (list_all (λ p. r (class_at ops best) (class_at ops p)) os) (Some best) None)) (latest_is ops os)
-    ∙ greatest_found (class_at ops) r low os
+    greatest_found (class_at ops) r low os
 
 pub class_is : (ops : List Operation) (i : ℕ) (op : Operation) → i < length ops → op ≡ get_or ops i op → class_at ops i ≡ op.class
 class_is [] i op h e = absurd (omega arith)

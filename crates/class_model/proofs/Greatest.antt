@@ -1,8 +1,12 @@
 -- The element that is related to all others, where what is related is not greater.
-use Rattle.std.proofs.Common.{◌≡◌, ℕ, suc, ◌+◌, ◌<◌, ◌≤◌, Bool, true, false, ◌&&◌, cond, nat_lt, List, [], ◌∷◌, ◌++◌, fold, find, Option, Some, None, refl, sym, ap, ◌∙◌, arith, true≢false, ⊎_elim, subst}
+use Rattle.std.proofs.Common.{◌≡◌, ℕ, suc, ◌+◌, ◌<◌, ◌≤◌, Bool, true, false, not, ◌&&◌, ◌||◌, cond, nat_lt, List, [], ◌∷◌, ◌++◌, fold, filter, find, get_or, length, take, Option, Some, None, refl, sym, ap, ◌∙◌, arith, true≢false, ⊎_elim, subst}
 use Rattle.std.specs.List.{AllByRecursion, list_all}
 use Rattle.std.specs.Option.{option_and_then}
 use Rattle.std.proofs.lemmas.Bool.Decides.{leb_tells}
+use Rattle.std.proofs.lemmas.List.{take_more}
+use Rattle.std.proofs.lemmas.List.Elements.{filter-append}
+use Rattle.std.proofs.lemmas.List.Sums.{fold-append}
+use Rattle.class_model.specs.Indexes.{greater_by, greatest_by}
 
 first_of : (a b : Bool) → (a && b) ≡ true → a ≡ true
 first_of true b h = refl
@@ -75,10 +79,8 @@ module _ (key : ℕ → ℕ) where
         true≢false (sym h ∙ same_passes all y b e ∙ fails))
         ys g.behind))
 
-  -- of two elements the one with the greater key, else the first
-  abbrev pub greater : Option ℕ → ℕ → ℕ
-  greater None o = o
-  greater (Some b) o = cond (nat_lt (key b) (key o)) o b
+  abbrev greater : Option ℕ → ℕ → ℕ
+  greater best o = greater_by key best o
 
   abbrev pub greatest : Option ℕ → List ℕ → Option ℕ
   greatest best os = fold (λ best o. Some (greater best o)) best os
@@ -126,7 +128,7 @@ module _ (key : ℕ → ℕ) where
 
   -- the one that is related to all others is the greatest, if any is
   pub greatest_found : (r : ℕ → ℕ → Bool) → ((a b : ℕ) → r a b ≡ true → b ≤ a) → (all : List ℕ) →
-      option_and_then (λ b. cond (list_all (λ p. r (key b) (key p)) all) (Some b) None) (greatest None all) ≡ find (λ o. list_all (λ p. r (key o) (key p)) all) all
+      option_and_then (λ b. cond (list_all (λ p. r (key b) (key p)) all) (Some b) None) (greatest_by key all) ≡ find (λ o. list_all (λ p. r (key o) (key p)) all) all
   greatest_found r low [] = refl
   greatest_found r low (o ∷ rest) =
       let p : Parted (o ∷ rest) (greatest (Some o) rest) = parts_from o [] [] rest (record { before = tt; behind = tt }) in
@@ -134,3 +136,19 @@ module _ (key : ℕ → ℕ) where
       ∙ ap (λ l. cond (list_all (λ q. r (key p.b) (key q)) l) (Some p.b) None) p.all_is
       ∙ sym (found_is r low p.b p.xs p.ys p.great)
       ∙ ap (λ l. find (λ x. list_all (λ q. r (key x) (key q)) l) l) (sym p.all_is)
+
+filtered : (b : Bool) (p : ℕ → Bool) (x : ℕ) (xs : List ℕ) → list_all p (cond b (x ∷ xs) xs) ≡ ((not b || p x) && list_all p xs)
+filtered true p x xs = refl
+filtered false p x xs = refl
+
+pub all_filter : (p q : ℕ → Bool) (xs : List ℕ) → list_all p (filter q xs) ≡ list_all (λ x. not (q x) || p x) xs
+all_filter p q [] = refl
+all_filter p q (x ∷ xs) = filtered (q x) p x (filter q xs) ∙ ap (λ b. (not (q x) || p x) && b) (all_filter p q xs)
+
+-- one number more, where it passes
+pub greatest_more : (key : ℕ → ℕ) (os : List ℕ) (b : Bool) (i : ℕ) → cond b (Some (greater_by key (greatest_by key os) i)) (greatest_by key os) ≡ greatest_by key (os ++ cond b (i ∷ []) [])
+greatest_more key os true i = sym (fold-append (λ best o. Some (greater_by key best o)) None os (i ∷ []))
+greatest_more key os false i = sym (fold-append (λ best o. Some (greater_by key best o)) None os [])
+
+pub filter_more : (test : ℕ → Bool) (xs : List ℕ) (i : ℕ) → i < length xs → filter test (take (i + 1) xs) ≡ filter test (take i xs) ++ cond (test (get_or xs i 0)) (get_or xs i 0 ∷ []) []
+filter_more test xs i h = ap (filter test) (take_more xs i 0 h) ∙ filter-append test (take i xs) (get_or xs i 0 ∷ [])

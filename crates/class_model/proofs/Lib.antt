@@ -6,3 +6,6 @@ pub mod Rows
 pub mod Chosen
 pub mod OnlyLiterals
 pub mod Indexing
+pub mod Lowest
+pub mod Conforming
+pub mod Joining

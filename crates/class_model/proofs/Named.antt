@@ -1,13 +1,17 @@
 -- What names stand for, after a change.
-use Rattle.std.proofs.Common.{◌≡◌, ℕ, zero, suc, ◌+◌, ◌<◌, Bool, true, false, ◌&&◌, cond, List, [], ◌∷◌, nat_cmp, length, get_or, take, Option, Some, None, is_some, refl, sym, ap, ◌∙◌, arith, true≢false}
+use Rattle.std.proofs.Common.{◌≡◌, ℕ, zero, suc, ◌+◌, ◌<◌, Bool, true, false, ◌&&◌, cond, List, [], ◌∷◌, nat_cmp, length, get_or, take, slice_get, Option, Some, None, is_some, refl, sym, ap, ◌∙◌, arith, true≢false}
 use Rattle.std.specs.BTreeMap.{BTreeMap, get_by_text}
 use Rattle.std.specs.Cmp.Lexicographic.{slice_cmp, texts_ties}
 use Rattle.std.specs.declared.string.String.{String}
 use Rattle.std.specs.FinMap.{nat_cmp-IsAntisymmetric, slice_cmp-IsAntisymmetric}
 use Rattle.std.specs.List.{position_from}
-use Rattle.std.specs.Option.{option_or}
+use Rattle.std.specs.Option.{option_and_then, option_or}
 use Rattle.use_orders.proofs.Sets.{equal}
 use Rattle.class_decls.specs.Texts.{first_numbered, same_text}
+use Rattle.class_model.specs.declared.object_model.Enumeration.{Enumeration}
+use Rattle.class_model.specs.declared.object_model.ObjectModel.{ObjectModel}
+use Rattle.class_model.specs.Features.{literal, literal_in}
+use Rattle.class_model.specs.Indexes.{AreLiteralTables, IsLiteralTable}
 
 pub none_from : {B : Type 0} (o : Option B) → is_some o ≡ false → o ≡ None
 none_from None e = refl
@@ -90,3 +94,14 @@ pub first_next : {A B : Type 0} (f : ℕ → A → Option B) (xs : List A) (i : 
 first_next f xs i x h e =
     let z : 0 + i ≡ i = omega arith in
     rw z at (first_more f 0 xs i x h e)
+
+found_in : {A : Type 0} (enums : List Enumeration) (e : ℕ) (name : List ℕ) → e < length enums → (table : BTreeMap (String A) ℕ) →
+    ((x : Enumeration) → IsLiteralTable (get_or enums e x) table) → get_by_text table name ≡ option_and_then (λ enumeration. literal_in enumeration name) (slice_get enums e)
+found_in [] e name h table is = absurd (omega arith)
+found_in (x ∷ xs) zero name h table is = is x name
+found_in (x ∷ xs) (suc e) name h table is = found_in xs e name (omega arith) table is
+
+-- the literal that the table of its enumeration gives
+pub literal_is : {A : Type 0} (m : ObjectModel) (e : ℕ) (name : List ℕ) → e < length m.enums → (tables : List (BTreeMap (String A) ℕ)) (d : BTreeMap (String A) ℕ) →
+    AreLiteralTables m.enums tables → get_by_text (get_or tables e d) name ≡ literal m e name
+literal_is m e name h tables d all = found_in m.enums e name h (get_or tables e d) (λ x. all.1 e x d h)

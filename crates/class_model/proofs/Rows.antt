@@ -12,10 +12,11 @@ use Rattle.std.proofs.lemmas.List.{get_or_append_left}
 use Rattle.std.proofs.lemmas.List.Folds.{list_any-append}
 use Rattle.std.proofs.lemmas.List.FromFn.{get_or-map-range_with_len, length-map-range_with_len}
 use Rattle.std.proofs.lemmas.List.Kept.{IsStrictlySortedBy-filter}
-use Rattle.use_orders.specs.Canon.{has}
+use Rattle.use_orders.specs.Canon.{has, set_of}
 use Rattle.use_orders.proofs.Merged.{has-filter, is_set}
 use Rattle.use_orders.proofs.Sets.{has-set_of}
-use Rattle.class_model.specs.Above.{IsDownward, ancestors, is_among, row_at, upward}
+use Rattle.class_rules.specs.Ancestors.{IsDownward, ancestors, upward}
+use Rattle.class_rules.specs.Numbering.{is_among, row_at}
 use Rattle.class_model.specs.Indexes.{IsTable, above, flag, flag_in}
 
 eq_is : (x y : ℕ) → nat_eq x y ≡ is_eq (nat_cmp x y)
@@ -43,7 +44,7 @@ any_flat : (f : ℕ → Bool) (g : ℕ → List ℕ) (xs : List ℕ) → list_an
 any_flat f g [] = refl
 any_flat f g (x ∷ xs) = list_any-append f (g x) (flat_map g xs) ∙ ap (λ b. list_any f (g x) || b) (any_flat f g xs)
 
-or_cases : {P : Type 0} (a b : Bool) → (a ≡ true → P) → (b ≡ true → P) → (a || b) ≡ true → P
+pub or_cases : {P : Type 0} (a b : Bool) → (a ≡ true → P) → (b ≡ true → P) → (a || b) ≡ true → P
 or_cases true b f g h = f refl
 or_cases false b f g h = g h
 
@@ -226,3 +227,30 @@ module _ (parents : List (List ℕ)) where
         ap (λ r. nat_eq d c || flag_in r d) (past_end table c [] (omega arith))
         ∙ sym (inherits_step c d ∙ ap (λ r. nat_eq d c || list_any (λ p. inherits p d) r) (past_row parents c (omega arith))))
         (cases_lt c i)
+
+not_here : (a b : Bool) → (a ≡ true → ⊥) → b ≡ false → (a || b) ≡ false
+not_here true b h e = absurd (h refl)
+not_here false b h e = e
+
+none_any : (f : ℕ → Bool) (xs : List ℕ) → AllByRecursion (λ x. f x ≡ true → ⊥) xs → list_any f xs ≡ false
+none_any f [] h = refl
+none_any f (x ∷ xs) h = not_here (f x) (list_any f xs) h.0 (none_any f xs h.1)
+
+or_false : (a : Bool) → (a || false) ≡ a
+or_false true = refl
+or_false false = refl
+
+module _ (parents : List (List ℕ)) (down : IsDownward parents) (a : ℕ) (out : length parents ≤ a) where
+  -- a class that is not there has no ancestors, and no other class inherits from it
+  pub alone : ancestors parents a ≡ a ∷ []
+  alone = ap (λ r. set_of nat_cmp (a ∷ flat_map (upward parents a) r)) (past_row parents a out)
+
+  pub alone_is : (b : ℕ) → is_among (ancestors parents b) a ≡ nat_eq a b
+  alone_is b =
+      inherits_step parents down b a
+      ∙ ap (λ x. nat_eq a b || x)
+      (⊎_elim
+      (λ low. none_any (λ p. is_among (ancestors parents p) a) (row_at parents b) (all_from (λ p less e. let k = inherits_low parents down p a e in let l : p < b = less in absurd (omega arith)) (row_at parents b) (down b)))
+      (λ high. ap (list_any (λ p. is_among (ancestors parents p) a)) (past_row parents b high))
+      (cases_lt b (length parents)))
+      ∙ or_false (nat_eq a b)

@@ -1,5 +1,5 @@
 -- Conformance of types, and the type that two types have in common.
-use Rattle.std.specs.Prelude.{ℕ, Bool, true, false, ◌&&◌, nat_eq, if◌then◌else◌, IsTrue, List, filter, find, Option, Some, None}
+use Rattle.std.specs.Prelude.{◌≡◌, ℕ, Bool, true, false, ◌&&◌, nat_eq, if◌then◌else◌, IsTrue, List, filter, find, Option, Some, None}
 use Rattle.std.specs.List.{list_all}
 use Rattle.std.specs.Option.{option_map_or}
 use Rattle.ocl_values.specs.declared.value.Kind.{Kind}
@@ -48,3 +48,9 @@ join m (T.Class c) (T.Class d) = wider m (T.Class c) (T.Class d) (option_map_or 
 join m (T.Coll' k s (more_of-OclType a r)) (T.Coll' l t (more_of-OclType b q)) =
     wider m (T.Coll k a) (T.Coll l b) (if kind_ghosts.eq k l then T.Coll k (join m a b) else T.Any)
 join m a b = wider m a b T.Any
+
+-- the least type to which two types conform: they conform to it, and it conforms to each to which they do
+pub record IsLeast (m : ObjectModel) (a b least : OclType) : Type 0 where
+  pub first : conforms m a least ≡ true
+  pub second : conforms m b least ≡ true
+  pub below : (t : OclType) → conforms m a t ≡ true → conforms m b t ≡ true → conforms m least t ≡ true

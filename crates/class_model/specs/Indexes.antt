@@ -3,8 +3,8 @@ use Rattle.std.specs.Prelude.{◌≡◌, ◌<◌, ◌||◌, ℕ, Bool, false, na
 use Rattle.std.specs.BTreeMap.{BTreeMap, get_by_text}
 use Rattle.std.specs.Option.{option_and_then}
 use Rattle.std.specs.declared.string.String.{String}
-use Rattle.class_model.specs.Above as rows
-use Rattle.class_model.specs.Above.{is_among}
+use Rattle.class_rules.specs.Ancestors as rows
+use Rattle.class_rules.specs.Numbering.{is_among}
 use Rattle.class_model.specs.declared.class_index.ClassIndex.{ClassIndex}
 use Rattle.class_model.specs.declared.object_model.Enumeration.{Enumeration}
 use Rattle.class_model.specs.declared.object_model.ObjectModel.{ObjectModel}
@@ -27,17 +27,18 @@ above table c d = nat_eq d c || flag table c d
 abbrev pub IsTable : List (List ℕ) → List (List Bool) → Type 0
 IsTable parents table = (c d : ℕ) → above table c d ≡ is_among (rows.ancestors parents c) d
 
--- of two declarations, the one whose class has the greater number, else the first
-abbrev pub later : List Operation → Option ℕ → ℕ → ℕ
-later ops None o = o
-later ops (Some b) o = if nat_lt (has.class_at ops b) (has.class_at ops o) then o else b
+-- of two numbers the one with the greater key, else the first
+abbrev pub greater_by : (ℕ → ℕ) → Option ℕ → ℕ → ℕ
+greater_by key None o = o
+greater_by key (Some b) o = if nat_lt (key b) (key o) then o else b
 
+-- of some numbers the first one with the greatest key
+abbrev pub greatest_by : (ℕ → ℕ) → List ℕ → Option ℕ
+greatest_by key os = fold (λ best o. Some (greater_by key best o)) None os
+
+-- of some declarations the first one whose class has the greatest number
 abbrev pub latest : List Operation → List ℕ → Option ℕ
-latest ops os = fold (λ best o. Some (later ops best o)) None os
-
--- the last element of a list
-abbrev pub last_of : List ℕ → Option ℕ
-last_of xs = fold (λ last x. Some x) None xs
+latest ops os = greatest_by (has.class_at ops) os
 
 -- what a class has, by number and by name
 pub record IsIndexOf (m : ObjectModel) (c : ℕ) (index : ClassIndex) : Type 0 where

@@ -1,7 +1,7 @@
 -- Classes and their ancestors.
 use Rattle.std.specs.Prelude.{ℕ, Bool, List, map}
-use Rattle.class_model.specs.Above as above
-use Rattle.class_model.specs.Above.{is_among}
+use Rattle.class_rules.specs.Ancestors as above
+use Rattle.class_rules.specs.Numbering.{is_among}
 use Rattle.class_model.specs.declared.object_model.ObjectModel.{ObjectModel}
 
 -- the direct parents of each class

@@ -1,4 +1,3 @@
-pub mod Above
 pub mod Ends
 pub mod Multiplicities
 pub mod Inheritance

@@ -5,6 +5,7 @@ ghost use Rattle.class_model.specs.Features.{assoc_named, class_named, enum_name
 ghost use Rattle.class_model.specs.Indexes.{AreIndexes, IsIndexOf, IsTable};
 ghost use Rattle.class_model.specs.InRange.{IsInRange};
 ghost use Rattle.class_model.specs.Inheritance.{is_a, parents_of};
+ghost use Rattle.class_model.specs.Parts.{literal_count};
 
 use crate::by_name::{ByName, numbers_by_name};
 use crate::class_index::{ClassIndex, class_index};
@@ -94,6 +95,14 @@ impl ClassModel {
         &self.model
     }
 
+    /// The numbers in a model are in range, and it has no more of anything than it may have: a law,
+    /// which costs nothing.
+    pub fn has_numbers_in_range(&self)
+        ensures { IsInRange self.now }
+    {
+        let _ = &self.model;
+    }
+
     /// What a class has.
     pub(crate) fn index(&self, class: ClassNo) -> &ClassIndex
         requires { class < length self.now.classes }
@@ -146,5 +155,62 @@ impl ClassModel {
             None => None,
             Some(literal) => *literal,
         }
+    }
+}
+
+/// What there is.
+impl ClassModel {
+    /// The name of the model.
+    pub fn name(&self) -> &str
+        ensures { result.now ≡ self.now.name }
+    {
+        self.model.name.as_str()
+    }
+
+    pub fn class_count(&self) -> u32
+        ensures { result ≡ length self.now.classes }
+    {
+        self.model.classes.len() as u32
+    }
+
+    pub fn enum_count(&self) -> u32
+        ensures { result ≡ length self.now.enums }
+    {
+        self.model.enums.len() as u32
+    }
+
+    pub fn assoc_count(&self) -> u32
+        ensures { result ≡ length self.now.assocs }
+    {
+        self.model.assocs.len() as u32
+    }
+
+    /// How many stored attributes there are.
+    pub fn attr_count(&self) -> u32
+        ensures { result ≡ length self.now.attrs }
+    {
+        self.model.attrs.len() as u32
+    }
+
+    /// How many derived attributes there are.
+    pub fn derived_count(&self) -> u32
+        ensures { result ≡ length self.now.derived }
+    {
+        self.model.derived.len() as u32
+    }
+
+    /// How many declarations of operations there are.
+    pub fn op_count(&self) -> u32
+        ensures { result ≡ length self.now.ops }
+    {
+        self.model.ops.len() as u32
+    }
+
+    /// How many literals an enumeration has.
+    pub fn literal_count(&self, number: EnumNo) -> u32
+        requires { number < length self.now.enums }
+        ensures { result ≡ literal_count self.now number }
+    {
+        self.model.enums.as_slice()[number as usize].literals.len() as u32
     }
 }

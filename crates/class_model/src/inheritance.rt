@@ -1,6 +1,6 @@
 ghost use Rattle.std.specs.Prelude.{◌≡◌, ◌<◌, ◌≤◌, ◌^◌, ◌||◌, ℕ, [], ◌∷◌, ◌++◌, nat_eq, if◌then◌else◌, IfOk, OnOk, filter, length, map};
 ghost use Rattle.std.specs.List.{list_any, range_with_len};
-ghost use Rattle.class_model.specs.Above.{IsDownward};
+ghost use Rattle.class_rules.specs.Ancestors.{IsDownward};
 ghost use Rattle.class_model.specs.Indexes.{IsTable, above, flag, flag_in};
 
 use crate::lists::push_if;

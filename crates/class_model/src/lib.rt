@@ -6,6 +6,7 @@ mod class_index;
 mod class_model;
 mod conformance;
 mod inheritance;
+mod laws;
 mod lists;
 mod literals;
 mod multiplicity;

@@ -4,7 +4,7 @@ ghost use Rattle.std.specs.List.{list_all, position_from};
 ghost use Rattle.std.specs.Option.{option_and_then, option_map_or};
 ghost use Rattle.class_decls.specs.Texts.{same_text};
 ghost use Rattle.class_model.specs.Features.{chosen_by, class_at, declares, listed_by, numbers_of};
-ghost use Rattle.class_model.specs.Indexes.{above, later, latest};
+ghost use Rattle.class_model.specs.Indexes.{above, greater_by, latest};
 
 use crate::by_name::{ByName, add_first_if, put, stands_for};
 use crate::inheritance::is_above;
@@ -75,7 +75,7 @@ fn class_at(ops: &[Operation], number: OpNo) -> ClassNo
 
 /// The declaration whose class has the greater number.
 fn later(ops: &[Operation], best: Option<OpNo>, number: OpNo) -> OpNo
-    ensures { result ≡ later ops.now best number }
+    ensures { result ≡ greater_by (class_at ops.now) best number }
 {
     match best {
         None => number,
@@ -96,7 +96,7 @@ fn add_later(
     name: &str,
     number: OpNo,
 ) -> Result<(), AllocError>
-    ensures { OnOk result ((t : List ℕ) → get_by_text map.new t ≡ (if same_text name.now t then Some (later ops.now (get_by_text map.old t) number) else get_by_text map.old t)) }
+    ensures { OnOk result ((t : List ℕ) → get_by_text map.new t ≡ (if same_text name.now t then Some (greater_by (class_at ops.now) (get_by_text map.old t) number) else get_by_text map.old t)) }
 {
     let best = map.get(name).copied();
     put(alloc, map, name, later(ops, best, number))
@@ -110,7 +110,7 @@ fn add_later_if(
     name: &str,
     number: OpNo,
 ) -> Result<(), AllocError>
-    ensures { OnOk result ((t : List ℕ) → get_by_text map.new t ≡ (if holds && same_text name.now t then Some (later ops.now (get_by_text map.old t) number) else get_by_text map.old t)) }
+    ensures { OnOk result ((t : List ℕ) → get_by_text map.new t ≡ (if holds && same_text name.now t then Some (greater_by (class_at ops.now) (get_by_text map.old t) number) else get_by_text map.old t)) }
 {
     if !holds {
         return Ok(());

@@ -22,55 +22,6 @@ impl Association {
     }
 }
 
-/// What there is.
-impl ClassModel {
-    /// The name of the model.
-    pub fn name(&self) -> &str
-        ensures { result.now ≡ self.now.name }
-    {
-        self.as_model().name.as_str()
-    }
-
-    pub fn class_count(&self) -> u32
-        ensures { result ≡ length self.now.classes }
-    {
-        self.as_model().classes.len() as u32
-    }
-
-    pub fn enum_count(&self) -> u32
-        ensures { result ≡ length self.now.enums }
-    {
-        self.as_model().enums.len() as u32
-    }
-
-    pub fn assoc_count(&self) -> u32
-        ensures { result ≡ length self.now.assocs }
-    {
-        self.as_model().assocs.len() as u32
-    }
-
-    /// How many stored attributes there are.
-    pub fn attr_count(&self) -> u32
-        ensures { result ≡ length self.now.attrs }
-    {
-        self.as_model().attrs.len() as u32
-    }
-
-    /// How many derived attributes there are.
-    pub fn derived_count(&self) -> u32
-        ensures { result ≡ length self.now.derived }
-    {
-        self.as_model().derived.len() as u32
-    }
-
-    /// How many declarations of operations there are.
-    pub fn op_count(&self) -> u32
-        ensures { result ≡ length self.now.ops }
-    {
-        self.as_model().ops.len() as u32
-    }
-}
-
 /// The things of each number.
 impl ClassModel {
     fn class(&self, number: ClassNo) -> &Class
@@ -358,13 +309,6 @@ impl ClassModel {
         ensures { result.now ≡ enum_name self.now number }
     {
         self.enumeration(number).name.as_str()
-    }
-
-    pub fn literal_count(&self, number: EnumNo) -> u32
-        requires { number < length self.now.enums }
-        ensures { result ≡ literal_count self.now number }
-    {
-        self.enumeration(number).literals.len() as u32
     }
 
     pub fn literal_name(&self, number: EnumNo, literal: LitNo) -> &str

@@ -11,4 +11,6 @@ classes-preserved c =
     )
 
 pub returns : goal.returns
-returns c = ?
+returns c =
+    let e : c.classes.class ≡ length c.args.model.now.classes = omega arith in
+    (c.classes.invariant.0 ∙ e, λ i d h. c.classes.invariant.1 i d (omega arith))

@@ -1,5 +1,5 @@
 use Rattle.std.proofs.Common.{map}
-use Rattle.class_model.specs.Above.{IsDownward}
+use Rattle.class_rules.specs.Ancestors.{IsDownward}
 use Rattle.class_model.proofs.Rows.{IsTableTo}
 use Rattle.class_model.proofs.inheritance.table.Given as goal
 
