@@ -3,6 +3,8 @@ use Rattle.std.specs.Prelude.{ℕ, Bool, not, ◌||◌, List, [], ◌∷◌, ◌
 use Rattle.std.specs.List.{flat_map, list_any}
 use Rattle.std.specs.Option.{option_to_list}
 use Rattle.use_text.specs.declared.place.Place.{Place}
+use Rattle.class_decls.specs.declared.decls.AssocDecl.{AssocDecl}
+use Rattle.class_decls.specs.declared.decls.ClassDecl.{ClassDecl}
 use Rattle.class_decls.specs.declared.decls.Name.{Name}
 use Rattle.class_decls.specs.declared.decls.OpDecl.{OpDecl}
 use Rattle.class_decls.specs.declared.decls.Decls.{Decls}
@@ -10,20 +12,26 @@ use Rattle.class_decls.specs.Texts.{is_plain_type, same_text}
 use Rattle.class_decls.specs.Entries.{first_place}
 use Rattle.class_decls.specs.Names.{heads}
 
+abbrev pub end_classes : AssocDecl → List Name
+end_classes a = a.first.class ∷ a.second.class ∷ []
+
 -- parents, the classes of ends and those of conditions
 abbrev pub class_references : Decls → List Name
 class_references ds =
     flat_map (λ c. c.parents) ds.classes
-    ++ flat_map (λ a. a.first.class ∷ a.second.class ∷ []) ds.assocs
+    ++ flat_map end_classes ds.assocs
     ++ map (λ c. c.class) ds.conds
 
 -- the names in the types of a head
 abbrev pub head_types : OpDecl → List Name
 head_types op = map (λ p. p.of_type.name) op.params ++ map (λ t. t.name) (option_to_list op.result_type)
 
+abbrev pub attr_types : ClassDecl → List Name
+attr_types c = map (λ a. a.of_type.name) c.attrs
+
 -- the names in the types of attributes, parameters and results
 abbrev pub type_references : Decls → List Name
-type_references ds = flat_map (λ c. map (λ a. a.of_type.name) c.attrs) ds.classes ++ flat_map head_types (heads ds)
+type_references ds = flat_map attr_types ds.classes ++ flat_map head_types (heads ds)
 
 abbrev pub is_class : Decls → List ℕ → Bool
 is_class ds text = list_any (λ c. same_text c.name.text text) ds.classes

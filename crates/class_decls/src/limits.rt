@@ -1,7 +1,8 @@
 ghost use Rattle.std.specs.Prelude.{◌≡◌, slice_get, find, filter};
 ghost use Rattle.std.specs.Option.{option_map, option_or};
 ghost use Rattle.class_decls.specs.Texts.{first_given};
-ghost use Rattle.class_decls.specs.Limits.{bad_multiplicity, bad_part, excess_literal, is_bad_part, is_invariant, too_many_assocs, too_many_classes, too_many_invariants, too_many_literals};
+ghost use Rattle.class_decls.specs.Limits.{bad_multiplicity, bad_part, excess_literal, is_bad_part, is_invariant};
+ghost use Rattle.class_decls.specs.Limits.{too_many_assocs, too_many_classes, too_many_invariants, too_many_literals};
 
 use crate::entry::Named;
 use crate::{AssocDecl, CondDecl, CondKind, Decls, EndDecl, EnumDecl, MultPart};

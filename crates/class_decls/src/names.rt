@@ -1,7 +1,8 @@
 ghost use Rattle.std.specs.Prelude.{◌≡◌, IfOk, OnOk, [], ◌++◌, map};
 ghost use Rattle.std.specs.Option.{option_copied};
 ghost use Rattle.std.specs.List.{cons_option, filter_map, flat_map};
-ghost use Rattle.class_decls.specs.Names.{cond_entries, cond_space, entry, given, head_in, heads, literal_entries, name_declared_twice, numbered, op_name, operation_declared_twice, param_entries, params_of, parent_named_twice, type_entries};
+ghost use Rattle.class_decls.specs.Names.{cond_entries, cond_space, entry, given, head_in, heads, literal_entries, numbered, op_name};
+ghost use Rattle.class_decls.specs.Names.{name_declared_twice, operation_declared_twice, param_entries, params_of, parent_named_twice, type_entries};
 ghost use Rattle.class_decls.specs.declared.entry.Space.TheVariants as s;
 
 use crate::entry::{add_entries, entry_of, predeclared};

@@ -1,6 +1,7 @@
 ghost use Rattle.std.specs.Prelude.{◌≡◌, List, ℕ, IfOk, OnOk, [], ◌∷◌, ◌++◌, map};
 ghost use Rattle.class_decls.specs.Entries.{first_of};
-ghost use Rattle.class_decls.specs.References.{class_references, head_types, is_class, is_type, places_outside, type_references, unknown_type};
+ghost use Rattle.class_decls.specs.References.{attr_types, class_references, end_classes, head_types, is_class, is_type};
+ghost use Rattle.class_decls.specs.References.{places_outside, type_references, unknown_type};
 ghost use Rattle.class_decls.specs.Texts.{has_text};
 ghost use Rattle.std.specs.List.{flat_map};
 
@@ -80,7 +81,7 @@ fn add_parents<'a>(classes: &'a [ClassDecl], found: &mut Vec<&'a Name>) -> Resul
 }
 
 fn add_ends<'a>(assocs: &'a [AssocDecl], found: &mut Vec<&'a Name>) -> Result<(), AllocError>
-    ensures { OnOk result (map (λ n. n.now) found.new.items ≡ map (λ n. n.now) found.old.items ++ flat_map (λ a. a.first.class ∷ a.second.class ∷ []) assocs.now) }
+    ensures { OnOk result (map (λ n. n.now) found.new.items ≡ map (λ n. n.now) found.old.items ++ flat_map end_classes assocs.now) }
 {
     'assocs: for assoc in assocs {
         found.push(&assoc.first.class)?;
@@ -110,7 +111,7 @@ fn class_references<'a>(alloc: Global, decls: &'a Decls) -> Result<Vec<&'a Name>
 }
 
 fn add_attr_types<'a>(class: &'a ClassDecl, found: &mut Vec<&'a Name>) -> Result<(), AllocError>
-    ensures { OnOk result (map (λ n. n.now) found.new.items ≡ map (λ n. n.now) found.old.items ++ map (λ a. a.of_type.name) class.now.attrs) }
+    ensures { OnOk result (map (λ n. n.now) found.new.items ≡ map (λ n. n.now) found.old.items ++ attr_types class.now) }
 {
     'attrs: for attr in class.attrs.as_slice() {
         found.push(&attr.of_type.name)?;
@@ -144,7 +145,7 @@ fn add_class_types<'a>(
     classes: &'a [ClassDecl],
     found: &mut Vec<&'a Name>,
 ) -> Result<(), AllocError>
-    ensures { OnOk result (map (λ n. n.now) found.new.items ≡ map (λ n. n.now) found.old.items ++ flat_map (λ c. map (λ a. a.of_type.name) c.attrs) classes.now) }
+    ensures { OnOk result (map (λ n. n.now) found.new.items ≡ map (λ n. n.now) found.old.items ++ flat_map attr_types classes.now) }
 {
     'classes: for class in classes {
         add_attr_types(class, found)?;

@@ -31,19 +31,19 @@ passes_or f n i None true h g e = let k : n ≡ i = cc in ap f (sym k) ∙ g ref
 passes_or f n i None false h g e = cc
 passes_or f n i (Some j) b h g e = let k : j ≡ i = cc in ap f (sym k) ∙ h j refl
 
-least_passes : (f : ℕ → Bool) (n i : ℕ) → least_below f n ≡ Some i → f i ≡ true
+pub least_passes : (f : ℕ → Bool) (n i : ℕ) → least_below f n ≡ Some i → f i ≡ true
 least_passes f zero i e = cc
 least_passes f (suc n) i e = passes_or f n i (least_below f n) (f n) (λ j. least_passes f n j) (λ h. h) e
 
-second_of : (a b : Bool) → (a && b) ≡ true → b ≡ true
+pub second_of : (a b : Bool) → (a && b) ≡ true → b ≡ true
 second_of true b h = h
 second_of false b h = absurd (true≢false (sym h))
 
-first_of : (a b : Bool) → (a && b) ≡ true → a ≡ true
+pub first_of : (a b : Bool) → (a && b) ≡ true → a ≡ true
 first_of true b h = refl
 first_of false b h = h
 
-all_from_test : (f : ℕ → Bool) (xs : List ℕ) → list_all f xs ≡ true → AllByRecursion (λ x. f x ≡ true) xs
+pub all_from_test : (f : ℕ → Bool) (xs : List ℕ) → list_all f xs ≡ true → AllByRecursion (λ x. f x ≡ true) xs
 all_from_test f [] h = tt
 all_from_test f (x ∷ xs) h = (first_of (f x) (list_all f xs) h, all_from_test f xs (second_of (f x) (list_all f xs) h))
 

@@ -1,12 +1,12 @@
 -- Classes by number, and their ancestors.
-use Rattle.std.specs.Prelude.{ℕ, zero, suc, ◌<◌, nat_eq, nat_lt, List, [], ◌∷◌, map, filter, Option, slice_get, unwrap_or}
+use Rattle.std.specs.Prelude.{◌≡◌, ℕ, zero, suc, ◌<◌, Bool, true, nat_eq, nat_lt, List, [], ◌∷◌, map, filter, Option, None, slice_get, slice_index_or, unwrap_or}
 use Rattle.std.specs.List.{AllByRecursion, filter_map, flat_map, position_from}
 use Rattle.std.specs.Option.{option_and_then, option_map_or}
 use Rattle.std.specs.Ordering.{nat_cmp}
 use Rattle.use_orders.specs.Canon.{set_of}
 use Rattle.class_decls.specs.declared.decls.ClassDecl.{ClassDecl}
 use Rattle.class_decls.specs.declared.decls.Decls.{Decls}
-use Rattle.class_rules.specs.Numbering.{numbering, parent_places, row_at}
+use Rattle.class_rules.specs.Numbering.{is_among, numbering, parent_places, row_at}
 
 -- the number of the class at a place
 abbrev pub number_at : Decls → ℕ → Option ℕ
@@ -25,9 +25,25 @@ upward parents (suc n) c = c ∷ flat_map (upward parents n) (row_at parents c)
 abbrev pub ancestors : List (List ℕ) → ℕ → List ℕ
 ancestors parents c = set_of nat_cmp (upward parents (suc c) c)
 
+-- with each class that it holds, a set holds its parents
+abbrev pub HoldsParents : List (List ℕ) → (ℕ → Bool) → Type 0
+HoldsParents parents held = (d : ℕ) → held d ≡ true → AllByRecursion (λ p. held p ≡ true) (row_at parents d)
+
+-- the least set that holds a class and the parents of its members
+pub record IsLeastAbove (parents : List (List ℕ)) (c : ℕ) (above : List ℕ) : Type 0 where
+  pub class : is_among above c ≡ true
+  pub parents_too : HoldsParents parents (is_among above)
+  pub least : (held : ℕ → Bool) → held c ≡ true → HoldsParents parents held → (d : ℕ) → is_among above d ≡ true → held d ≡ true
+
 -- each parent has a smaller number
 abbrev pub IsDownward : List (List ℕ) → Type 0
 IsDownward parents = (c : ℕ) → AllByRecursion (λ p. p < c) (row_at parents c)
+
+-- what is kept of the classes of declarations: their places by number, the number at each place, and parents by number
+pub record IsHierarchyOf (ds : Decls) (order : List ℕ) (numbers : List (Option ℕ)) (parents : List (List ℕ)) : Type 0 where
+  pub in_order : order ≡ numbering (parent_places ds)
+  pub numbered : (i : ℕ) → slice_index_or numbers i None ≡ number_at ds i
+  pub parented : parents ≡ parent_numbers ds
 
 -- the class of a number
 abbrev pub class_numbered : Decls → ℕ → Option ClassDecl

@@ -1,4 +1,5 @@
 pub mod Numbering
+pub mod Cycles
 pub mod Ancestors
 pub mod Features
 pub mod Operations

@@ -1,7 +1,10 @@
 -- The numbers of classes, and cycles of inheritance.
-use Rattle.std.specs.Prelude.{ℕ, zero, suc, Bool, not, ◌&&◌, ◌||◌, nat_eq, nat_lt, if◌then◌else◌, List, [], ◌∷◌, ◌++◌}
-use Rattle.std.specs.Prelude.{map, take, length, Option, Some, None, slice_get, unwrap_or}
+use Rattle.std.specs.Prelude.{ℕ, zero, suc, Bool, true, not, ◌&&◌, ◌||◌, nat_eq, nat_lt, if◌then◌else◌, List, [], ◌∷◌, ◌++◌}
+use Rattle.std.specs.Prelude.{map, take, length, Option, Some, None, slice_get, slice_index_or, unwrap_or}
 use Rattle.std.specs.List.{filter_map, list_all, list_any, position_from}
+use Rattle.std.specs.BTreeMap.{BTreeMap, get}
+use Rattle.std.specs.Cmp.Lexicographic.{slice_cmp}
+use Rattle.std.specs.Ordering.{nat_cmp}
 use Rattle.std.specs.Option.{option_and_then, option_map, option_map_or, option_or}
 use Rattle.use_text.specs.declared.place.Place.{Place}
 use Rattle.class_decls.specs.declared.decls.Decls.{Decls}
@@ -14,6 +17,13 @@ class_at ds text = position_from (λ c. same_text c.name.text text) 0 ds.classes
 -- where the parents of each class stand
 abbrev pub parent_places : Decls → List (List ℕ)
 parent_places ds = map (λ c. filter_map (λ p. class_at ds p.text) c.parents) ds.classes
+
+-- the place of a name in a map
+abbrev pub place_in : BTreeMap (List ℕ) ℕ → List ℕ → Option ℕ
+place_in m t = get (slice_cmp nat_cmp) m t
+
+abbrev pub some_if : Bool → ℕ → Option ℕ
+some_if b n = if b then Some n else None
 
 -- the entry of a list of lists, and none past its end
 abbrev pub row_at : List (List ℕ) → ℕ → List ℕ
@@ -30,6 +40,10 @@ least_below test (suc n) = option_or (least_below test n) (if test n then Some n
 -- whether a class has no number yet and its parents all have one; parents past the classes that are considered do not count
 abbrev pub may_follow : List (List ℕ) → List ℕ → ℕ → Bool
 may_follow parents done i = not (is_among done i) && list_all (λ p. is_among done p || not (nat_lt p (length parents))) (row_at parents i)
+
+-- the same of flags that tell which classes have one
+abbrev pub may_follow_flags : List (List ℕ) → List Bool → ℕ → Bool
+may_follow_flags parents done i = not (slice_index_or done i true) && list_all (λ p. slice_index_or done p true) (row_at parents i)
 
 -- the classes that have a number, and so many that get the next ones: each time the first class that may follow
 abbrev pub numbered_on : List (List ℕ) → List ℕ → ℕ → List ℕ

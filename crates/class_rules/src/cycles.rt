@@ -1,4 +1,4 @@
-ghost use Rattle.std.specs.Prelude.{◌≡◌, ◌≤◌, None, IfOk, length};
+ghost use Rattle.std.specs.Prelude.{◌≡◌, ◌≤◌, ◌<◌, None, Some, IfOk, length, true, false};
 ghost use Rattle.class_rules.specs.Numbering.{closes_cycle, has_cycle, inheritance_cycle, least_below, parent_places};
 
 use crate::numbering::numbering;
@@ -17,17 +17,39 @@ fn has_cycle(alloc: Global, parents: &[Items<usize>], count: usize) -> Result<bo
     Ok(order.len() < considered.len())
 }
 
+/// The first class that closes a cycle, where the classes before `low` hold none and those before
+/// `high` hold one. A cycle stays when classes are added, so half of them tell on which side it is.
+fn closing_between(
+    alloc: Global,
+    parents: &[Items<usize>],
+    low: usize,
+    high: usize,
+) -> Result<usize, AllocError>
+    requires without { has_cycle parents.now low ≡ false }
+    requires with { has_cycle parents.now high ≡ true }
+    requires between { low < high }
+    requires within { high ≤ length parents.now }
+    ensures { IfOk result (λ place. least_below (closes_cycle parents.now) (length parents.now) ≡ Some place) }
+{
+    if high - low == 1 {
+        return Ok(low);
+    }
+    let middle = low + (high - low) / 2;
+    let cyclic = has_cycle(alloc, parents, middle)?;
+    if cyclic {
+        closing_between(alloc, parents, low, middle)
+    } else {
+        closing_between(alloc, parents, middle, high)
+    }
+}
+
 /// The first class that closes a cycle among the classes up to it.
 fn closing_class(alloc: Global, parents: &[Items<usize>]) -> Result<Option<usize>, AllocError>
+    requires { has_cycle parents.now (length parents.now) ≡ true }
     ensures { IfOk result (λ place. place ≡ least_below (closes_cycle parents.now) (length parents.now)) }
 {
-    'places: for place in 0..parents.len() {
-        let closes = has_cycle(alloc, parents, place + 1)?;
-        if closes {
-            return Ok(Some(place));
-        }
-    }
-    Ok(None)
+    let place = closing_between(alloc, parents, 0, parents.len())?;
+    Ok(Some(place))
 }
 
 /// M4: the first class that closes a cycle of inheritance among the classes up to it.

@@ -24,16 +24,14 @@ pub struct Hierarchy<'a> {
 }
 
 impl<'a> Model for Hierarchy<'a> {
-    ghost use Rattle.std.specs.Prelude.{◌≡◌, ℕ, None, slice_index_or};
     ghost use Rattle.class_decls.specs.declared.decls.Decls.{Decls};
-    ghost use Rattle.class_rules.specs.Ancestors.{number_at, parent_numbers};
-    ghost use Rattle.class_rules.specs.Numbering.{numbering, parent_places};
+    ghost use Rattle.class_rules.specs.Ancestors.{IsHierarchyOf};
 
     ghost Value = { Decls };
 
     ghost view = { λ h. h.decls.now };
 
-    ghost invariant = { λ h. (h.order.items ≡ numbering (parent_places h.decls.now)) × ((i : ℕ) → slice_index_or h.numbers.items i None ≡ number_at h.decls.now i) × (h.parents.items ≡ parent_numbers h.decls.now) };
+    ghost invariant = { λ h. IsHierarchyOf h.decls.now h.order.items h.numbers.items h.parents.items };
 }
 
 /// The numbers of the classes at some places.

@@ -10,6 +10,7 @@ mod cycles;
 mod features;
 mod heads;
 mod hierarchy;
+mod laws;
 mod numbering;
 mod numbers;
 mod overriding;
@@ -19,6 +20,7 @@ mod rules;
 pub use by_class::ClassRule;
 pub use clash::Clash;
 pub use hierarchy::Hierarchy;
+pub use laws::{ancestors_are_least, classes_are_numbered, cycles_go_round};
 pub use rules::{RuleFault, judge};
 
 #[cfg(test)]

@@ -1,6 +1,6 @@
 ghost use Rattle.std.specs.Prelude.{◌≡◌, ◌<◌, ◌≤◌, ◌&&◌, ℕ, not, true, IfOk, length, slice_index_or, take};
 ghost use Rattle.std.specs.List.{list_all};
-ghost use Rattle.class_rules.specs.Numbering.{closes_cycle, has_cycle, least_below, numbering, row_at};
+ghost use Rattle.class_rules.specs.Numbering.{least_below, may_follow_flags, numbering};
 
 use crate::ancestors::row_at;
 use std::alloc::{AllocError, Global};
@@ -24,7 +24,7 @@ fn all_done(done: &[bool], places: &[usize]) -> bool
 
 /// Whether the class at a place may get the next number.
 fn may_follow(parents: &[Items<usize>], done: &[bool], place: usize) -> bool
-    ensures { result ≡ (not (slice_index_or done.now place true) && list_all (λ p. slice_index_or done.now p true) (row_at parents.now place)) }
+    ensures { result ≡ may_follow_flags parents.now done.now place }
 {
     !is_done(done, place) && all_done(done, row_at(parents, place))
 }
@@ -48,7 +48,7 @@ fn first_open(done: &[bool], from: usize) -> usize
 fn next_place(parents: &[Items<usize>], done: &[bool], from: usize) -> Option<usize>
     requires before { (i : ℕ) → i < from → slice_index_or done.now i true ≡ true }
     requires within { from ≤ length parents.now }
-    ensures { result ≡ least_below (λ i. not (slice_index_or done.now i true) && list_all (λ p. slice_index_or done.now p true) (row_at parents.now i)) (length parents.now) }
+    ensures { result ≡ least_below (may_follow_flags parents.now done.now) (length parents.now) }
 {
     'places: for place in from..parents.len() {
         if may_follow(parents, done, place) {

@@ -1,6 +1,7 @@
-ghost use Rattle.std.specs.Prelude.{◌≡◌, ◌≢◌, ◌<◌, ℕ, None, Some, All, IfOk, if◌then◌else◌, length, nat_eq, slice_index_or, vec_len};
+ghost use Rattle.std.specs.Prelude.{◌≡◌, ◌≢◌, ◌<◌, ℕ, None, All, IfOk, length, nat_eq, slice_index_or, vec_len};
 ghost use Rattle.std.specs.List.{filter_map, position_from};
 ghost use Rattle.std.specs.Option.{option_or};
+ghost use Rattle.class_rules.specs.Numbering.{some_if};
 
 use std::alloc::{AllocError, Global};
 
@@ -8,7 +9,7 @@ use std::alloc::{AllocError, Global};
 fn give_number(numbers: &mut Vec<Option<usize>>, place: usize, number: usize)
     requires { place < vec_len numbers.old }
     ensures size { vec_len numbers.new ≡ vec_len numbers.old }
-    ensures given { (i : ℕ) → slice_index_or numbers.new.items i None ≡ option_or (slice_index_or numbers.old.items i None) (if nat_eq i place then Some number else None) }
+    ensures given { (i : ℕ) → slice_index_or numbers.new.items i None ≡ option_or (slice_index_or numbers.old.items i None) (some_if (nat_eq i place) number) }
 {
     if numbers[place].is_none() {
         numbers[place] = Some(number);

@@ -1,10 +1,10 @@
-ghost use Rattle.std.specs.Prelude.{◌≡◌, [], ◌++◌, List, ℕ, Some, None, IfOk, OnOk, if◌then◌else◌, map};
+ghost use Rattle.std.specs.Prelude.{◌≡◌, [], ◌++◌, List, ℕ, IfOk, OnOk, map};
 ghost use Rattle.std.specs.BTreeMap.{get};
 ghost use Rattle.std.specs.Cmp.Lexicographic.{slice_cmp};
 ghost use Rattle.std.specs.List.{cons_option, filter_map, position_from};
 ghost use Rattle.std.specs.Option.{option_copied, option_or};
 ghost use Rattle.std.specs.Ordering.{nat_cmp};
-ghost use Rattle.class_rules.specs.Numbering.{class_at, parent_places};
+ghost use Rattle.class_rules.specs.Numbering.{class_at, parent_places, place_in, some_if};
 ghost use Rattle.class_decls.specs.Texts.{same_text};
 
 use class_decls::{ClassDecl, Decls, Name};
@@ -17,7 +17,7 @@ use use_lists::Items;
 pub(crate) type Places = BTreeMap<Text, usize>;
 
 fn add_place(places: &mut Places, text: Text, place: usize) -> Result<(), AllocError>
-    ensures { OnOk result ((t : List ℕ) → get (slice_cmp nat_cmp) places.new t ≡ option_or (get (slice_cmp nat_cmp) places.old t) (if same_text text t then Some place else None)) }
+    ensures { OnOk result ((t : List ℕ) → place_in places.new t ≡ option_or (place_in places.old t) (some_if (same_text text t) place)) }
 {
     if places.contains_key(&text) {
         return Ok(());

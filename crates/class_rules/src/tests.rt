@@ -1,4 +1,5 @@
 use super::*;
+use class_decls::{AttrDecl, ClassDecl, Decls, Name, TypeDecl};
 use ocl_values::Text;
 use std::alloc::{AllocError, Global};
 use std::test::Fail;
@@ -103,17 +104,94 @@ fn an_attribute_of_one_ancestor_is_met_once(rt: HostRuntime) -> Result<(), Fail>
     Ok(())
 }
 
+/// A class, its line, its parents and its attribute; an empty text stands for none.
+type Row = (&'static str, u32, [&'static str; 2], &'static str);
+
+fn given(text: &'static str) -> Option<&'static str> {
+    if text == "" { None } else { Some(text) }
+}
+
+/// The classes of some rows.
+fn model_of(alloc: Global, rows: &[Row]) -> Result<Decls, AllocError> {
+    let mut classes = Items::new(alloc);
+    'rows: for row in rows {
+        let parents = [given(row.2[0]), given(row.2[1])];
+        classes.push(class(alloc, row.0, row.1, parents, given(row.3))?)?;
+    }
+    model(alloc, classes)
+}
+
 #[test]
 fn the_least_rule_is_told_first(rt: HostRuntime) -> Result<(), Fail> {
     let alloc = rt.alloc();
-    let mut classes = Items::new(alloc);
-    classes.push(class(alloc, "A", 2, [Some("Z"), None], None)?)?;
-    classes.push(class(alloc, "String", 3, [None, None], None)?)?;
-    let decls = model(alloc, classes)?;
-    assert_eq!(rt; judge(alloc, &decls), refused(1, 3, 7));
-    let mut classes = Items::new(alloc);
-    classes.push(class(alloc, "A", 2, [Some("Z"), Some("Z")], None)?)?;
-    let decls = model(alloc, classes)?;
-    assert_eq!(rt; judge(alloc, &decls), refused(2, 2, 11));
+    let table: [(&[Row], Result<(), RuleFault>); 6] = [
+        // M1 before M2
+        (
+            &[("A", 2, ["Z", ""], ""), ("String", 3, ["", ""], "")],
+            refused(1, 3, 7),
+        ),
+        // M2 before M3
+        (&[("A", 2, ["Z", "Z"], "")], refused(2, 2, 11)),
+        // M3 before M4
+        (&[("A", 2, ["A", "A"], "")], refused(3, 2, 14)),
+        // M4 before M5
+        (
+            &[
+                ("A", 2, ["A", ""], ""),
+                ("B", 3, ["", ""], "x"),
+                ("C", 4, ["B", ""], "x"),
+            ],
+            refused(4, 2, 7),
+        ),
+        // M5 at the first class in the text that has the fault
+        (
+            &[
+                ("D", 2, ["C", ""], ""),
+                ("B", 3, ["", ""], "x"),
+                ("C", 4, ["B", ""], "x"),
+            ],
+            refused(5, 2, 7),
+        ),
+        (
+            &[
+                ("D", 2, ["C", ""], ""),
+                ("B", 3, ["", ""], "x"),
+                ("C", 4, ["B", ""], "y"),
+            ],
+            Ok(()),
+        ),
+    ];
+    'rows: for row in table.iter() {
+        let decls = model_of(alloc, row.0)?;
+        assert_eq!(rt; judge(alloc, &decls), row.1);
+    }
+    Ok(())
+}
+
+#[test]
+fn parents_have_smaller_numbers(rt: HostRuntime) -> Result<(), Fail> {
+    let alloc = rt.alloc();
+    let decls = model_of(
+        alloc,
+        &[
+            ("D", 2, ["C", "B"], ""),
+            ("B", 3, ["A", ""], ""),
+            ("C", 4, ["A", ""], ""),
+            ("A", 5, ["", ""], ""),
+        ],
+    )?;
+    let hierarchy = Hierarchy::of(alloc, &decls)?;
+    assert_eq!(rt; hierarchy.order(), [3, 1, 2, 0].as_slice());
+    assert_eq!(rt; hierarchy.number(0), Some(3));
+    assert_eq!(rt; hierarchy.parents(3), [2, 1].as_slice());
+    assert_eq!(rt;
+        hierarchy.ancestors(alloc, 3)?.as_slice(),
+        [0, 1, 2, 3].as_slice()
+    );
+    assert_eq!(rt;
+        hierarchy.class(0).map(|class| class.name.place.line),
+        Some(5)
+    );
+    assert_eq!(rt; hierarchy.decls().classes.len(), 4);
     Ok(())
 }

@@ -1,6 +1,6 @@
 use Rattle.std.proofs.Common.{◌&&◌, map, sym, ◌∙◌, ap}
 use Rattle.std.specs.List.{list_any}
-use Rattle.class_decls.specs.Limits.{is_contract_of}
+use Rattle.class_rules.specs.Operations.{is_contract_of}
 use Rattle.class_decls.specs.Texts.{same_text}
 use Rattle.class_decls.proofs.TextSets.{any-map, count_alike}
 use Rattle.class_rules.proofs.contracts.contract_count.Goals as goal
