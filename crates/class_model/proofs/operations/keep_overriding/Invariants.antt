@@ -1,0 +1,9 @@
+use Rattle.std.proofs.Common.{◌≡◌, ℕ, List, take}
+use Rattle.std.specs.BTreeMap.{get_by_text}
+use Rattle.class_model.specs.Features.{declares, numbers_of}
+use Rattle.class_model.specs.Indexes.{above}
+use Rattle.class_model.proofs.Chosen.{overriding}
+use Rattle.class_model.proofs.operations.keep_overriding.Given as goal
+
+abbrev pub invariant-ops : goal.invariant-ops
+invariant-ops l = (t : List ℕ) → get_by_text l.map t ≡ overriding (above l.rows) l.ops (numbers_of (declares (above l.rows l.class) t) (take l.op-index l.ops)) (get_by_text l.fn.map t)

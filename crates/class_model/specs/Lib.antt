@@ -1,0 +1,9 @@
+pub mod Ends
+pub mod Multiplicities
+pub mod Inheritance
+pub mod Features
+pub mod Parts
+pub mod Conformance
+pub mod InRange
+pub mod Indexes
+pub mod Indexed
