@@ -1,7 +1,9 @@
+ghost use Rattle.std.specs.Prelude.{◌≡◌, ◌<◌};
+
 use super::played;
 use std::alloc::Global;
 use std::marker::Brand;
-use std::sync::ledger::Blank;
+use std::sync::ledger::{Blank, Ledger};
 use std::test::Fail;
 
 /// A model that is refused, its answer, and the nearest one that is accepted.
@@ -262,8 +264,12 @@ const LIMITS: [Limit; 9] = [
 ];
 
 /// How a model is answered: nothing where it is accepted.
-fn answer(alloc: Global, model: &[u8]) -> Result<Vec<u8>, Fail> {
-    let (out, _) = played::<Brand>(alloc, &["M.use"], model, Vec::new(alloc), 1, Blank::new(1))?;
+fn answer<L: Ledger>(alloc: Global, model: &[u8], blank: Blank) -> Result<Vec<u8>, Fail>
+    requires name { blank.name ≡ L.name }
+    requires parts { blank.parts ≡ L.parts }
+    requires some { 0 < blank.parts }
+{
+    let (out, _) = played::<L>(alloc, &["M.use"], model, Vec::new(alloc), 1, blank)?;
     Ok(out)
 }
 
@@ -292,9 +298,9 @@ fn model_with(alloc: Global, limit: &Limit, count: u32) -> Result<Vec<u8>, Fail>
 fn each_rule_refuses_a_model_and_accepts_the_nearest(rt: HostRuntime) -> Result<(), Fail> {
     let alloc = rt.alloc();
     for rule in RULES.iter() {
-        let refused = answer(alloc, rule.refused.as_bytes())?;
+        let refused = answer::<Brand>(alloc, rule.refused.as_bytes(), Blank::new(1))?;
         assert_eq!(rt; refused.as_slice(), rule.answer.as_bytes());
-        let accepted = answer(alloc, rule.accepted.as_bytes())?;
+        let accepted = answer::<Brand>(alloc, rule.accepted.as_bytes(), Blank::new(1))?;
         assert_eq!(rt; accepted.as_slice(), b"".as_slice(), "{}", rule.accepted);
     }
     Ok(())
@@ -304,7 +310,7 @@ fn each_rule_refuses_a_model_and_accepts_the_nearest(rt: HostRuntime) -> Result<
 fn of_two_broken_rules_the_lesser_is_told(rt: HostRuntime) -> Result<(), Fail> {
     let alloc = rt.alloc();
     for (model, wanted) in ORDERS.iter() {
-        let out = answer(alloc, model.as_bytes())?;
+        let out = answer::<Brand>(alloc, model.as_bytes(), Blank::new(1))?;
         assert_eq!(rt; out.as_slice(), wanted.as_bytes());
     }
     Ok(())
@@ -314,7 +320,7 @@ fn of_two_broken_rules_the_lesser_is_told(rt: HostRuntime) -> Result<(), Fail> {
 fn what_is_not_built_is_told_behind_the_rules(rt: HostRuntime) -> Result<(), Fail> {
     let alloc = rt.alloc();
     for (model, wanted) in BODIES.iter() {
-        let out = answer(alloc, model.as_bytes())?;
+        let out = answer::<Brand>(alloc, model.as_bytes(), Blank::new(1))?;
         assert_eq!(rt; out.as_slice(), wanted.as_bytes());
     }
     Ok(())
@@ -325,7 +331,7 @@ fn a_model_has_as_much_as_it_may_and_no_more(rt: HostRuntime) -> Result<(), Fail
     let alloc = rt.alloc();
     for limit in LIMITS.iter() {
         let most = model_with(alloc, limit, limit.most)?;
-        let accepted = answer(alloc, &most)?;
+        let accepted = answer::<Brand>(alloc, &most, Blank::new(1))?;
         assert_eq!(rt;
             accepted.as_slice(),
             limit.within.as_bytes(),
@@ -333,7 +339,7 @@ fn a_model_has_as_much_as_it_may_and_no_more(rt: HostRuntime) -> Result<(), Fail
             limit.one
         );
         let more = model_with(alloc, limit, limit.most.saturating_add(1))?;
-        let refused = answer(alloc, &more)?;
+        let refused = answer::<Brand>(alloc, &more, Blank::new(1))?;
         assert_eq!(rt; refused.as_slice(), limit.answer.as_bytes());
     }
     Ok(())
