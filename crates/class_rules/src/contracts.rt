@@ -38,12 +38,7 @@ fn counts(decls: &Decls, cond: &CondDecl, op: &OpDecl, classes: &[&ClassDecl]) -
     is_contract_of(decls, cond, &op.name.text) && has_class(classes, &cond.class.text)
 }
 
-fn contracts_above(
-    decls: &Decls,
-    conds: &[CondDecl],
-    op: &OpDecl,
-    classes: &[&ClassDecl],
-) -> usize
+fn contracts_above(decls: &Decls, conds: &[CondDecl], op: &OpDecl, classes: &[&ClassDecl]) -> usize
     ensures { result ≡ count_by (λ c. is_contract_of decls.now op.now.name.text c
         && list_any (λ d. same_text d.now.name.text c.class.text) classes.now) conds.now }
 {

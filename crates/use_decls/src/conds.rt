@@ -1,4 +1,4 @@
-ghost use Rattle.std.specs.Prelude.{◌≡◌, ◌∷◌, ◌++◌, [], IfOk, OnOk, length};
+ghost use Rattle.std.specs.Prelude.{◌≡◌, ◌++◌, [], IfOk, OnOk, length};
 ghost use Rattle.std.specs.List.{filter_map, flat_map};
 ghost use Rattle.std.specs.Option.{option_map, option_map_or, option_to_list};
 ghost use Rattle.use_decls.specs.Classes.{head_decl};
@@ -233,8 +233,8 @@ fn add_context_contracts(
     heads: &mut Items<OpDecl>,
     found: &mut Vec<CondPart>,
 ) -> Result<(), AllocError>
-    ensures conds { OnOk result (found.new.items ≡ found.old.items
-        ++ option_map_or (λ h. filter_map (contract_part lexed.now class.now (op_at lexed.now (Oper.InContext (length heads.old)))) nodes.entry) head.entry []) }
+    ensures conds { OnOk result (found.new.items ≡ found.old.items ++ option_map_or
+        (λ h. filter_map (contract_part lexed.now class.now (op_at lexed.now (Oper.InContext (length heads.old)))) nodes.entry) head.entry []) }
     ensures heads { OnOk result (heads.new ≡ heads.old ++ option_to_list (option_map (head_decl lexed.now Bare) head.entry)) }
 {
     match head {

@@ -35,12 +35,7 @@ fn file_decls(alloc: Global, lexed: &Lexed<'_>, file: FileNode<'_>) -> Result<De
     ensures { IfOk result (λ d. d ≡ file_decls lexed.now file.entry) }
 {
     let mut context_heads = Items::new(alloc);
-    let conds = all_conds(
-        alloc,
-        lexed,
-        file.declarations.copy(),
-        &mut context_heads,
-    )?;
+    let conds = all_conds(alloc, lexed, file.declarations.copy(), &mut context_heads)?;
     Ok(Decls {
         name: lexed.name_at(alloc, &file.name)?,
         enums: all_declared(alloc, lexed, file.declarations.copy())?,

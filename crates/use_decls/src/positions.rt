@@ -33,11 +33,7 @@ fn op_of_kind<'a>(context_heads: &'a [OpDecl], kind: &'a CondKind) -> &'a str
     }
 }
 
-fn group_of(
-    alloc: Global,
-    context_heads: &[OpDecl],
-    part: &CondPart,
-) -> Result<Group, AllocError>
+fn group_of(alloc: Global, context_heads: &[OpDecl], part: &CondPart) -> Result<Group, AllocError>
     ensures { IfOk result (λ g. g ≡ group_of context_heads.now part.now) }
 {
     Ok(Group {

@@ -126,12 +126,7 @@ fn add_assoc(alloc: Global, assoc: &AssocDecl, out: &mut String) -> Result<(), A
     add_end(alloc, &assoc.second, out)
 }
 
-fn add_op_of(
-    alloc: Global,
-    decls: &Decls,
-    op: &OpOf,
-    out: &mut String,
-) -> Result<(), AllocError> {
+fn add_op_of(alloc: Global, decls: &Decls, op: &OpOf, out: &mut String) -> Result<(), AllocError> {
     match op {
         OpOf::Here(name) => {
             add(out, " here")?;

@@ -15,7 +15,8 @@ count_one-requires c =
     let rest = into_iter_items c.next.new.self in
     let same = ap length (c.parts.invariant.whole ∙ ap (λ l. before ++ l) c.in-Some.ensures.steps.0) in
     let sum = length-append before (c.in-Some.part ∷ rest) in
-    omega (arith, c.parts.invariant.counts group, count_by-le-length (is_in c.args.context_heads.now group) before, same, sum, c.args.parts.ok.0, c.args.parts.small)
+    let counted_of = count_by-le-length (is_in c.args.context_heads.now group) before in
+    omega (arith, c.parts.invariant.counts group, counted_of, same, sum, c.args.parts.ok.0, c.args.parts.small)
 
 pub parts-preserved : goal.parts-preserved
 parts-preserved c =
