@@ -1,6 +1,7 @@
 -- The names that a model declares, each in its space.
-use Rattle.std.specs.Prelude.{ℕ, List, ◌++◌, map, Option, Some, None}
-use Rattle.std.specs.List.{enumerate_from, filter_map, flat_map}
+use Rattle.std.specs.Prelude.{ℕ, List, [], ◌++◌, map, slice_get, Option, Some, None}
+use Rattle.std.specs.List.{enumerate_from, flat_map}
+use Rattle.std.specs.Option.{option_map_or}
 use Rattle.use_text.specs.Places.{place_at}
 use Rattle.use_text.specs.declared.place.Place.{Place}
 use Rattle.class_decls.specs.declared.decls.Name.{Name}
@@ -44,19 +45,19 @@ op_of Inv = None
 op_of (Pre op) = Some op
 op_of (Post op) = Some op
 
--- the head that a contract's context gives
-abbrev pub head_of_op : OpOf → Option OpDecl
-head_of_op (Here name) = None
-head_of_op (Named head) = Some head
+-- the head that a contract's context names, of those that contexts name; past their list there is none
+abbrev pub head_of_op : List OpDecl → OpOf → Option OpDecl
+head_of_op context_heads (Here name) = None
+head_of_op context_heads (Named at) = slice_get context_heads at
 
-abbrev pub head_in : CondKind → Option OpDecl
-head_in Inv = None
-head_in (Pre op) = head_of_op op
-head_in (Post op) = head_of_op op
+abbrev pub head_in : List OpDecl → CondKind → Option OpDecl
+head_in context_heads Inv = None
+head_in context_heads (Pre op) = head_of_op context_heads op
+head_in context_heads (Post op) = head_of_op context_heads op
 
 -- the heads of operations: those of classes, and those of contexts
 abbrev pub heads : Decls → List OpDecl
-heads ds = flat_map (λ c. c.ops) ds.classes ++ filter_map (λ c. head_in c.kind) ds.conds
+heads ds = flat_map (λ c. c.ops) ds.classes ++ ds.context_heads
 
 abbrev pub params_of : ℕ → OpDecl → List Entry
 params_of i op = map (given (s.Parameters i)) bound_names ++ map (λ p. entry (s.Parameters i) p.name) op.params
@@ -64,18 +65,19 @@ params_of i op = map (given (s.Parameters i)) bound_names ++ map (λ p. entry (s
 abbrev pub param_entries : Decls → List Entry
 param_entries ds = numbered params_of (heads ds)
 
-abbrev pub op_name : OpOf → Name
-op_name (Here name) = name
-op_name (Named head) = head.name
+-- the name of a contract's operation, where contexts name some heads; past their list it is empty
+abbrev pub op_text : List OpDecl → OpOf → List ℕ
+op_text context_heads (Here name) = name.text
+op_text context_heads (Named at) = option_map_or (λ head. head.name.text) (slice_get context_heads at) []
 
 -- the invariants of a class have a space, and so have the contracts of an operation, preconditions and postconditions together
-abbrev pub cond_space : List ℕ → CondKind → Space
-cond_space class Inv = s.Invariants class
-cond_space class (Pre op) = s.Contracts class (op_name op).text
-cond_space class (Post op) = s.Contracts class (op_name op).text
+abbrev pub cond_space : List OpDecl → List ℕ → CondKind → Space
+cond_space context_heads class Inv = s.Invariants class
+cond_space context_heads class (Pre op) = s.Contracts class (op_text context_heads op)
+cond_space context_heads class (Post op) = s.Contracts class (op_text context_heads op)
 
 abbrev pub cond_entries : Decls → List Entry
-cond_entries ds = map (λ c. entry (cond_space c.class.text c.kind) c.name) ds.conds
+cond_entries ds = map (λ c. entry (cond_space ds.context_heads c.class.text c.kind) c.name) ds.conds
 
 -- M1: name is declared twice
 abbrev pub name_declared_twice : Decls → Option Place

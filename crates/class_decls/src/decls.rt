@@ -103,8 +103,9 @@ pub struct AssocDecl {
 pub enum OpOf {
     /// The operation behind whose head the contract stands, by its name.
     Here(Name),
-    /// The operation that a context names, with the head that the contract sees.
-    Named(OpDecl),
+    /// The operation that a context names, by the place from 0 of the context's head in
+    /// `Decls::context_heads`: the contract sees the parameters and the result of that head.
+    Named(usize),
 }
 
 /// What a condition is.
@@ -132,6 +133,8 @@ pub struct Decls {
     pub assocs: Items<AssocDecl>,
     /// Invariants and contracts, those inside classes included.
     pub conds: Items<CondDecl>,
+    /// The heads that contexts name, one for each context that names an operation.
+    pub context_heads: Items<OpDecl>,
 }
 
 impl Named for EnumDecl {

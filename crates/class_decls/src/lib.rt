@@ -19,6 +19,6 @@ pub use limits::{
 };
 pub use name_set::NameSet;
 pub use names::{
-    head_in, name_declared_twice, op_name, operation_declared_twice, parent_named_twice,
+    head_in, name_declared_twice, op_text, operation_declared_twice, parent_named_twice,
 };
 pub use references::unknown_type;

@@ -1,7 +1,7 @@
-ghost use Rattle.std.specs.Prelude.{◌≡◌, IfOk, OnOk, [], ◌++◌, map};
+ghost use Rattle.std.specs.Prelude.{◌≡◌, IfOk, OnOk, ◌++◌, map};
 ghost use Rattle.std.specs.Option.{option_copied};
-ghost use Rattle.std.specs.List.{cons_option, filter_map, flat_map};
-ghost use Rattle.class_decls.specs.Names.{cond_entries, cond_space, entry, given, head_in, heads, literal_entries, numbered, op_name};
+ghost use Rattle.std.specs.List.{flat_map};
+ghost use Rattle.class_decls.specs.Names.{cond_entries, cond_space, entry, given, head_in, heads, literal_entries, numbered, op_text};
 ghost use Rattle.class_decls.specs.Names.{name_declared_twice, operation_declared_twice, param_entries, params_of, parent_named_twice, type_entries};
 ghost use Rattle.class_decls.specs.declared.entry.Space.TheVariants as s;
 
@@ -18,35 +18,45 @@ pub(crate) static PLAIN_TYPES: [&str; 5] = ["Boolean", "Integer", "String", "Ocl
 /// What bodies and contracts call the receiver and the result.
 static BOUND_NAMES: [&str; 2] = ["self", "result"];
 
-/// The operation whose contract it is.
-pub fn op_name(op: &OpOf) -> &Name
-    ensures { result.now ≡ op_name op.now }
+/// The name of the operation whose contract it is, where contexts name these heads. Past their list
+/// it is empty.
+pub fn op_text<'a>(context_heads: &'a [OpDecl], op: &'a OpOf) -> &'a str
+    ensures { result.now ≡ op_text context_heads.now op.now }
 {
     match op {
-        OpOf::Here(name) => name,
-        OpOf::Named(head) => &head.name,
+        OpOf::Here(name) => name.text.as_str(),
+        OpOf::Named(at) => match context_heads.get(*at) {
+            None => "",
+            Some(head) => head.name.text.as_str(),
+        },
     }
 }
 
 /// The space of a condition's name.
-fn cond_space(alloc: Global, class: &Name, kind: &CondKind) -> Result<Space, AllocError>
-    ensures { IfOk result (λ space. space ≡ cond_space class.now.text kind.now) }
+fn cond_space(
+    alloc: Global,
+    context_heads: &[OpDecl],
+    class: &Name,
+    kind: &CondKind,
+) -> Result<Space, AllocError>
+    ensures { IfOk result (λ space. space ≡ cond_space context_heads.now class.now.text kind.now) }
 {
     let class = Text::copy_of(alloc, class.text.as_str())?;
     Ok(match kind {
         CondKind::Inv => Space::Invariants(class),
         CondKind::Pre(op) | CondKind::Post(op) => {
-            Space::Contracts(class, Text::copy_of(alloc, op_name(op).text.as_str())?)
+            Space::Contracts(class, Text::copy_of(alloc, op_text(context_heads, op))?)
         }
     })
 }
 
-/// The head in the context of a contract.
-pub fn head_in(kind: &CondKind) -> Option<&OpDecl>
-    ensures { option_copied result ≡ head_in kind.now }
+/// The head in the context of a contract, where contexts name these heads. Past their list there is
+/// none.
+pub fn head_in<'a>(context_heads: &'a [OpDecl], kind: &CondKind) -> Option<&'a OpDecl>
+    ensures { option_copied result ≡ head_in context_heads.now kind.now }
 {
     match kind {
-        CondKind::Pre(OpOf::Named(head)) | CondKind::Post(OpOf::Named(head)) => Some(head),
+        CondKind::Pre(OpOf::Named(at)) | CondKind::Post(OpOf::Named(at)) => context_heads.get(*at),
         _ => None,
     }
 }
@@ -87,11 +97,17 @@ fn add_literals(alloc: Global, enums: &[EnumDecl], names: &mut Vec<Entry>) -> Re
     Ok(())
 }
 
-fn add_conds(alloc: Global, conds: &[CondDecl], names: &mut Vec<Entry>) -> Result<(), AllocError>
-    ensures { OnOk result (names.new.items ≡ names.old.items ++ map (λ c. entry (cond_space c.class.text c.kind) c.name) conds.now) }
+fn add_conds(
+    alloc: Global,
+    context_heads: &[OpDecl],
+    conds: &[CondDecl],
+    names: &mut Vec<Entry>,
+) -> Result<(), AllocError>
+    ensures { OnOk result (names.new.items ≡ names.old.items
+        ++ map (λ c. entry (cond_space context_heads.now c.class.text c.kind) c.name) conds.now) }
 {
     'conds: for cond in conds {
-        let space = cond_space(alloc, &cond.class, &cond.kind)?;
+        let space = cond_space(alloc, context_heads, &cond.class, &cond.kind)?;
         let name = entry_of(alloc, space, &cond.name)?;
         names.push(name)?;
     }
@@ -119,37 +135,13 @@ fn add_class_heads<'a>(
     Ok(())
 }
 
-fn add_head<'a>(head: Option<&'a OpDecl>, found: &mut Vec<&'a OpDecl>) -> Result<(), AllocError>
-    ensures { OnOk result (map (λ h. h.now) found.new.items ≡ map (λ h. h.now) found.old.items ++ cons_option (option_copied head.entry) []) }
-{
-    match head {
-        None => Ok(()),
-        Some(head) => {
-            found.push(head)?;
-            Ok(())
-        }
-    }
-}
-
-fn add_context_heads<'a>(
-    conds: &'a [CondDecl],
-    found: &mut Vec<&'a OpDecl>,
-) -> Result<(), AllocError>
-    ensures { OnOk result (map (λ h. h.now) found.new.items ≡ map (λ h. h.now) found.old.items ++ filter_map (λ c. head_in c.kind) conds.now) }
-{
-    'conds: for cond in conds {
-        add_head(head_in(&cond.kind), found)?;
-    }
-    Ok(())
-}
-
 /// The heads of operations: those of classes, and those of contexts.
 pub(crate) fn heads<'a>(alloc: Global, decls: &'a Decls) -> Result<Vec<&'a OpDecl>, AllocError>
     ensures { IfOk result (λ v. map (λ h. h.now) v.items ≡ heads decls.now) }
 {
     let mut found = Vec::new(alloc);
     add_class_heads(decls.classes.as_slice(), &mut found)?;
-    add_context_heads(decls.conds.as_slice(), &mut found)?;
+    add_heads(decls.context_heads.as_slice(), &mut found)?;
     Ok(found)
 }
 
@@ -195,7 +187,12 @@ pub fn name_declared_twice(alloc: Global, decls: &Decls) -> Result<Option<Place>
     add_types(alloc, decls, &mut names)?;
     add_literals(alloc, decls.enums.as_slice(), &mut names)?;
     add_params(alloc, heads.as_slice(), &mut names)?;
-    add_conds(alloc, decls.conds.as_slice(), &mut names)?;
+    add_conds(
+        alloc,
+        decls.context_heads.as_slice(),
+        decls.conds.as_slice(),
+        &mut names,
+    )?;
     let place = declared_again(names)?;
     Ok(place)
 }

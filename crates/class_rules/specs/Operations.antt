@@ -15,7 +15,7 @@ use Rattle.class_decls.specs.declared.decls.Decls.{Decls}
 use Rattle.class_decls.specs.declared.decls.OpDecl.{OpDecl}
 use Rattle.class_decls.specs.declared.decls.TypeDecl.{TypeDecl}
 use Rattle.class_decls.specs.Texts.{first_given, same_text}
-use Rattle.class_decls.specs.Names.{head_in, op_name, op_of}
+use Rattle.class_decls.specs.Names.{head_in, op_of, op_text}
 use Rattle.class_rules.specs.Numbering.{class_at, is_among}
 use Rattle.class_rules.specs.Ancestors.{ancestors, class_numbered, parent_numbers}
 
@@ -59,12 +59,12 @@ abbrev pub is_ambiguous : Decls → List ℕ → Bool
 is_ambiguous ds classes = list_any (λ c. list_any (λ op. not (has_overriding ds classes op.name.text)) c.ops) (filter_map (class_numbered ds) classes)
 
 -- whether a condition is a contract of the operation of a name
-abbrev pub is_contract_of : List ℕ → CondDecl → Bool
-is_contract_of text c = option_map_or (λ op. same_text (op_name op).text text) (op_of c.kind) false
+abbrev pub is_contract_of : Decls → List ℕ → CondDecl → Bool
+is_contract_of ds text c = option_map_or (λ op. same_text (op_text ds.context_heads op) text) (op_of c.kind) false
 
 -- the contracts of an operation, those of the declarations that it overrides included
 abbrev pub contract_count : Decls → List ClassDecl → OpDecl → ℕ
-contract_count ds classes op = count_by (λ c. is_contract_of op.name.text c && list_any (λ d. same_text d.name.text c.class.text) classes) ds.conds
+contract_count ds classes op = count_by (λ c. is_contract_of ds op.name.text c && list_any (λ d. same_text d.name.text c.class.text) classes) ds.conds
 
 -- whether the class of a name declares an operation of this head's name and types
 abbrev pub declares_head : Decls → List ℕ → OpDecl → Bool
@@ -74,7 +74,8 @@ declares_head ds class head =
 
 -- where a context names a head that its class does not declare
 abbrev pub undeclared_head : Decls → CondDecl → Option Place
-undeclared_head ds cond = option_and_then (λ head. if declares_head ds cond.class.text head then None else Some head.name.place) (head_in cond.kind)
+undeclared_head ds cond =
+    option_and_then (λ head. if declares_head ds cond.class.text head then None else Some head.name.place) (head_in ds.context_heads cond.kind)
 
 -- M12: no such operation
 abbrev pub no_such_operation : Decls → Option Place

@@ -4,7 +4,7 @@ ghost use Rattle.class_rules.specs.ClassRules.{first_op};
 ghost use Rattle.class_rules.specs.Operations.{contract_count, is_contract_of};
 ghost use Rattle.class_decls.specs.Texts.{same_text};
 
-use class_decls::{ClassDecl, CondDecl, CondKind, Decls, OpDecl, op_name};
+use class_decls::{ClassDecl, CondDecl, CondKind, Decls, OpDecl, op_text};
 use ocl_values::Text;
 use use_text::Place;
 
@@ -15,13 +15,14 @@ const MOST_PARAMS: usize = 16;
 const MOST_CONTRACTS: usize = 64;
 
 /// Whether a condition is a contract of the operation of a name.
-fn is_contract_of(cond: &CondDecl, name: &Text) -> bool
-    ensures { result ≡ is_contract_of name.now cond.now }
+fn is_contract_of(decls: &Decls, cond: &CondDecl, name: &Text) -> bool
+    ensures { result ≡ is_contract_of decls.now name.now cond.now }
 {
+    let context_heads = decls.context_heads.as_slice();
     match &cond.kind {
         CondKind::Inv => false,
-        CondKind::Pre(op) => op_name(op).text == *name,
-        CondKind::Post(op) => op_name(op).text == *name,
+        CondKind::Pre(op) => op_text(context_heads, op) == name.as_str(),
+        CondKind::Post(op) => op_text(context_heads, op) == name.as_str(),
     }
 }
 
@@ -31,18 +32,19 @@ fn has_class(classes: &[&ClassDecl], name: &Text) -> bool
     classes.iter().any(|class| class.name.text == *name)
 }
 
-fn counts(cond: &CondDecl, op: &OpDecl, classes: &[&ClassDecl]) -> bool
-    ensures { result ≡ (is_contract_of op.now.name.text cond.now && list_any (λ d. same_text d.now.name.text cond.now.class.text) classes.now) }
+fn counts(decls: &Decls, cond: &CondDecl, op: &OpDecl, classes: &[&ClassDecl]) -> bool
+    ensures { result ≡ (is_contract_of decls.now op.now.name.text cond.now && list_any (λ d. same_text d.now.name.text cond.now.class.text) classes.now) }
 {
-    is_contract_of(cond, &op.name.text) && has_class(classes, &cond.class.text)
+    is_contract_of(decls, cond, &op.name.text) && has_class(classes, &cond.class.text)
 }
 
-fn contracts_above(conds: &[CondDecl], op: &OpDecl, classes: &[&ClassDecl]) -> usize
-    ensures { result ≡ count_by (λ c. is_contract_of op.now.name.text c && list_any (λ d. same_text d.now.name.text c.class.text) classes.now) conds.now }
+fn contracts_above(decls: &Decls, conds: &[CondDecl], op: &OpDecl, classes: &[&ClassDecl]) -> usize
+    ensures { result ≡ count_by (λ c. is_contract_of decls.now op.now.name.text c
+        && list_any (λ d. same_text d.now.name.text c.class.text) classes.now) conds.now }
 {
     conds
         .iter()
-        .filter(|cond| counts(cond, op, classes))
+        .filter(|cond| counts(decls, cond, op, classes))
         .count()
 }
 
@@ -50,7 +52,7 @@ fn contracts_above(conds: &[CondDecl], op: &OpDecl, classes: &[&ClassDecl]) -> u
 fn contract_count(decls: &Decls, op: &OpDecl, classes: &[&ClassDecl]) -> usize
     ensures { result ≡ contract_count decls.now (map (λ c. c.now) classes.now) op.now }
 {
-    contracts_above(decls.conds.as_slice(), op, classes)
+    contracts_above(decls, decls.conds.as_slice(), op, classes)
 }
 
 fn has_too_many(decls: &Decls, op: &OpDecl, classes: &[&ClassDecl]) -> bool

@@ -39,7 +39,7 @@ fn undeclared_head(decls: &Decls, places: &Places, cond: &CondDecl) -> Option<Pl
     requires { (t : List ℕ) → get (slice_cmp nat_cmp) places.now t ≡ class_at decls.now t }
     ensures { result ≡ undeclared_head decls.now cond.now }
 {
-    match head_in(&cond.kind) {
+    match head_in(decls.context_heads.as_slice(), &cond.kind) {
         None => None,
         Some(head) => {
             if declares_head(decls, places, &cond.class.text, head) {

@@ -55,6 +55,7 @@ fn model(alloc: Global, classes: Items<ClassDecl>) -> Result<Decls, AllocError> 
         classes,
         assocs: Items::new(alloc),
         conds: Items::new(alloc),
+        context_heads: Items::new(alloc),
     })
 }
 

@@ -9,6 +9,7 @@ use Rattle.std.specs.Prelude.{unwrap_or}
 use Rattle.std.proofs.lemmas.List.Sums.{sum_by-append}
 use Rattle.std.specs.Ordering.{is_eq, ordering_then}
 use Rattle.use_text.specs.Pieces.{same_text}
+use Rattle.class_decls.specs.declared.decls.OpDecl.{OpDecl}
 use Rattle.use_decls.specs.declared.conds.CondPart.{CondPart}
 use Rattle.use_decls.specs.declared.positions.Group.{Group}
 use Rattle.use_decls.specs.contracts.positions.GroupOrd.TheImpl.{ghosts as group_ghosts}
@@ -54,15 +55,15 @@ group_is a b e =
 count_push : {A : Type 0} (test : A → Bool) (xs : List A) (x : A) → count_by test (xs ++ x ∷ []) ≡ count_by test xs + cond (test x) 1 0
 count_push test xs x = sum_by-append (λ y. cond (test y) 1 0) xs (x ∷ []) ∙ omega arith
 
-pub counted : (old new : Group → ℕ) (before : List CondPart) (part : CondPart) →
-    ((g : Group) → old g ≡ count_by (is_in g) before) →
-    ((g : Group) → new g ≡ cond (is_group (group_of part) g) (old (group_of part) + 1) (old g)) →
-    (g : Group) → new g ≡ count_by (is_in g) (before ++ part ∷ [])
-counted old new before part was step g =
-    step g ∙ pick (is_group (group_of part) g) refl ∙ sym (count_push (is_in g) before part)
+pub counted : (heads : List OpDecl) (old new : Group → ℕ) (before : List CondPart) (part : CondPart) →
+    ((g : Group) → old g ≡ count_by (is_in heads g) before) →
+    ((g : Group) → new g ≡ cond (is_group (group_of heads part) g) (old (group_of heads part) + 1) (old g)) →
+    (g : Group) → new g ≡ count_by (is_in heads g) (before ++ part ∷ [])
+counted heads old new before part was step g =
+    step g ∙ pick (is_group (group_of heads part) g) refl ∙ sym (count_push (is_in heads g) before part)
   where
-    pick : (b : Bool) → is_group (group_of part) g ≡ b → cond b (old (group_of part) + 1) (old g) ≡ count_by (is_in g) before + cond b 1 0
-    pick true e = ap (λ h. old h + 1) (group_is (group_of part) g e) ∙ ap (λ n. n + 1) (was g)
+    pick : (b : Bool) → is_group (group_of heads part) g ≡ b → cond b (old (group_of heads part) + 1) (old g) ≡ count_by (is_in heads g) before + cond b 1 0
+    pick true e = ap (λ h. old h + 1) (group_is (group_of heads part) g e) ∙ ap (λ n. n + 1) (was g)
     pick false e = was g ∙ omega arith
 
 chosen : (b : Bool) (n : ℕ) (o : Option ℕ) → unwrap_or (cond b (Some n) o) 0 ≡ cond b n (unwrap_or o 0)

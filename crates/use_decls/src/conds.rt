@@ -1,15 +1,19 @@
-ghost use Rattle.std.specs.Prelude.{◌≡◌, ◌++◌, [], IfOk, OnOk};
+ghost use Rattle.std.specs.Prelude.{◌≡◌, ◌++◌, [], IfOk, OnOk, length};
 ghost use Rattle.std.specs.List.{filter_map, flat_map};
-ghost use Rattle.std.specs.Option.{option_map, option_map_or};
-ghost use Rattle.use_decls.specs.Conds.{class_conds, conds_at, constraints_conds, context_class, context_conds, context_parts, contract_kind, contract_part, inv_part, op_at, oper_conds};
+ghost use Rattle.std.specs.Option.{option_map, option_map_or, option_to_list};
+ghost use Rattle.use_decls.specs.Classes.{head_decl};
+ghost use Rattle.use_decls.specs.Conds.{behind_heads, class_conds, conds_at, constraints_conds, context_class, context_conds};
+ghost use Rattle.use_decls.specs.Conds.{contract_kind, contract_part, heads_at, heads_in, inv_part, op_at, oper_conds};
 ghost use Rattle.use_decls.specs.Names.{name_at};
+ghost use Rattle.class_decls.specs.declared.decls.BodyKind.TheVariants.{Bare};
 ghost use Rattle.use_decls.specs.declared.conds.Oper.TheVariants as Oper;
 
 use crate::classes::head_decl;
 use crate::declared::push_some;
 use crate::lexed::Lexed;
-use class_decls::{BodyKind, CondKind, Name, OpOf};
+use class_decls::{BodyKind, CondKind, Name, OpDecl, OpOf};
 use std::alloc::{AllocError, Global};
+use use_lists::Items;
 use use_nodes::{
     ClassNode, CondNode, ConstraintsNode, ContextNode, HeadNode, InvNode, NodeRef, OperNode, Parts,
 };
@@ -31,8 +35,8 @@ pub(crate) struct CondPart {
 pub(crate) enum Oper<'a> {
     /// The contracts stand behind it in a class.
     BesideHead(HeadNode<'a>),
-    /// A context names it.
-    InContext(HeadNode<'a>),
+    /// A context names it: the place of its head in `Decls::context_heads`.
+    InContext(usize),
 }
 
 fn op_at(alloc: Global, lexed: &Lexed<'_>, oper: &Oper<'_>) -> Result<OpOf, AllocError>
@@ -40,7 +44,7 @@ fn op_at(alloc: Global, lexed: &Lexed<'_>, oper: &Oper<'_>) -> Result<OpOf, Allo
 {
     match oper {
         Oper::BesideHead(head) => Ok(OpOf::Here(lexed.name_at(alloc, &head.name)?)),
-        Oper::InContext(head) => Ok(OpOf::Named(head_decl(alloc, lexed, BodyKind::Bare, head)?)),
+        Oper::InContext(at) => Ok(OpOf::Named(*at)),
     }
 }
 
@@ -219,32 +223,40 @@ fn context_class<'a>(node: &ContextNode<'a>) -> NodeRef<'a>
     }
 }
 
-/// Adds the contracts of a context that names an operation.
+/// Adds the contracts of a context that names an operation, and its head.
 fn add_context_contracts(
     alloc: Global,
     lexed: &Lexed<'_>,
     class: &NodeRef<'_>,
     head: Option<HeadNode<'_>>,
     nodes: Parts<'_>,
+    heads: &mut Items<OpDecl>,
     found: &mut Vec<CondPart>,
 ) -> Result<(), AllocError>
-    ensures { OnOk result (found.new.items ≡ found.old.items
-        ++ option_map_or (λ h. filter_map (contract_part lexed.now class.now (op_at lexed.now (Oper.InContext h))) nodes.entry) head.entry []) }
+    ensures conds { OnOk result (found.new.items ≡ found.old.items ++ option_map_or
+        (λ h. filter_map (contract_part lexed.now class.now (op_at lexed.now (Oper.InContext (length heads.old)))) nodes.entry) head.entry []) }
+    ensures heads { OnOk result (heads.new ≡ heads.old ++ option_to_list (option_map (head_decl lexed.now Bare) head.entry)) }
 {
     match head {
         None => Ok(()),
-        Some(head) => add_contracts(alloc, lexed, class, &Oper::InContext(head), nodes, found),
+        Some(head) => {
+            let oper = Oper::InContext(heads.len());
+            heads.push(head_decl(alloc, lexed, BodyKind::Bare, &head)?)?;
+            add_contracts(alloc, lexed, class, &oper, nodes, found)
+        }
     }
 }
 
-/// Adds the conditions of a context.
+/// Adds the conditions of a context, and the head that it names.
 fn add_context_conds(
     alloc: Global,
     lexed: &Lexed<'_>,
     node: &NodeRef<'_>,
+    heads: &mut Items<OpDecl>,
     found: &mut Vec<CondPart>,
 ) -> Result<(), AllocError>
-    ensures { OnOk result (found.new.items ≡ found.old.items ++ context_conds lexed.now node.now) }
+    ensures conds { OnOk result (found.new.items ≡ found.old.items ++ context_conds lexed.now (length heads.old) node.now) }
+    ensures heads { OnOk result (heads.new ≡ heads.old ++ heads_in lexed.now node.now) }
 {
     let Some(context) = ContextNode::of(node) else {
         return Ok(());
@@ -258,6 +270,7 @@ fn add_context_conds(
             &class,
             HeadNode::of(head),
             context.conditions,
+            heads,
             found,
         ),
     }
@@ -267,12 +280,15 @@ fn add_contexts_conds(
     alloc: Global,
     lexed: &Lexed<'_>,
     nodes: Parts<'_>,
+    heads: &mut Items<OpDecl>,
     found: &mut Vec<CondPart>,
 ) -> Result<(), AllocError>
-    ensures { OnOk result (found.new.items ≡ found.old.items ++ flat_map (context_conds lexed.now) nodes.entry) }
+    ensures conds { OnOk result (found.new.items ≡ found.old.items
+        ++ behind_heads (heads_in lexed.now) (context_conds lexed.now) (length heads.old) nodes.entry) }
+    ensures heads { OnOk result (heads.new ≡ heads.old ++ flat_map (heads_in lexed.now) nodes.entry) }
 {
     'nodes: for node in nodes {
-        add_context_conds(alloc, lexed, &node, found)?;
+        add_context_conds(alloc, lexed, &node, heads, found)?;
     }
     Ok(())
 }
@@ -281,40 +297,47 @@ fn add_constraints_conds(
     alloc: Global,
     lexed: &Lexed<'_>,
     node: &NodeRef<'_>,
+    heads: &mut Items<OpDecl>,
     found: &mut Vec<CondPart>,
 ) -> Result<(), AllocError>
-    ensures { OnOk result (found.new.items ≡ found.old.items ++ constraints_conds lexed.now node.now) }
+    ensures conds { OnOk result (found.new.items ≡ found.old.items ++ constraints_conds lexed.now (length heads.old) node.now) }
+    ensures heads { OnOk result (heads.new ≡ heads.old ++ heads_at lexed.now node.now) }
 {
     match ConstraintsNode::of(node) {
         None => Ok(()),
-        Some(node) => add_contexts_conds(alloc, lexed, node.contexts, found),
+        Some(node) => add_contexts_conds(alloc, lexed, node.contexts, heads, found),
     }
 }
 
-/// Adds the conditions of a declaration.
+/// Adds the conditions of a declaration, and the heads that its contexts name.
 fn add_conds(
     alloc: Global,
     lexed: &Lexed<'_>,
     node: &NodeRef<'_>,
+    heads: &mut Items<OpDecl>,
     found: &mut Vec<CondPart>,
 ) -> Result<(), AllocError>
-    ensures { OnOk result (found.new.items ≡ found.old.items ++ conds_at lexed.now node.now) }
+    ensures conds { OnOk result (found.new.items ≡ found.old.items ++ conds_at lexed.now (length heads.old) node.now) }
+    ensures heads { OnOk result (heads.new ≡ heads.old ++ heads_at lexed.now node.now) }
 {
     add_class_conds(alloc, lexed, node, found)?;
-    add_constraints_conds(alloc, lexed, node, found)
+    add_constraints_conds(alloc, lexed, node, heads, found)
 }
 
-/// The conditions of declarations, in the order of the text.
+/// The conditions of declarations, in the order of the text; the heads that their contexts name are
+/// added to those before them.
 pub(crate) fn all_conds(
     alloc: Global,
     lexed: &Lexed<'_>,
     nodes: Parts<'_>,
+    heads: &mut Items<OpDecl>,
 ) -> Result<Vec<CondPart>, AllocError>
-    ensures { IfOk result (λ parts. parts.items ≡ flat_map (conds_at lexed.now) nodes.entry) }
+    ensures conds { IfOk result (λ parts. parts.items ≡ behind_heads (heads_at lexed.now) (conds_at lexed.now) (length heads.old) nodes.entry) }
+    ensures heads { OnOk result (heads.new ≡ heads.old ++ flat_map (heads_at lexed.now) nodes.entry) }
 {
     let mut found = Vec::new(alloc);
     'nodes: for node in nodes {
-        add_conds(alloc, lexed, &node, &mut found)?;
+        add_conds(alloc, lexed, &node, heads, &mut found)?;
     }
     Ok(found)
 }

@@ -27,19 +27,22 @@ fn no_decls(alloc: Global) -> Decls
         classes: Items::new(alloc),
         assocs: Items::new(alloc),
         conds: Items::new(alloc),
+        context_heads: Items::new(alloc),
     }
 }
 
 fn file_decls(alloc: Global, lexed: &Lexed<'_>, file: FileNode<'_>) -> Result<Decls, AllocError>
     ensures { IfOk result (λ d. d ≡ file_decls lexed.now file.entry) }
 {
-    let conds = all_conds(alloc, lexed, file.declarations.copy())?;
+    let mut context_heads = Items::new(alloc);
+    let conds = all_conds(alloc, lexed, file.declarations.copy(), &mut context_heads)?;
     Ok(Decls {
         name: lexed.name_at(alloc, &file.name)?,
         enums: all_declared(alloc, lexed, file.declarations.copy())?,
         classes: all_declared(alloc, lexed, file.declarations.copy())?,
         assocs: all_declared(alloc, lexed, file.declarations)?,
-        conds: named(alloc, conds)?,
+        conds: named(alloc, context_heads.as_slice(), conds)?,
+        context_heads,
     })
 }
 

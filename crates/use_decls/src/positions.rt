@@ -1,10 +1,10 @@
 ghost use Rattle.std.specs.Prelude.{◌≡◌, ◌++◌, ◌<◌, ◌^◌, ◌+◌, [], ℕ, List, IfOk, OnOk, if◌then◌else◌};
 ghost use Rattle.std.specs.Fmt.{decimal};
-ghost use Rattle.use_decls.specs.Conds.{cond_decl, group_of, is_group, name_or, named_behind, op_of_kind, op_text};
+ghost use Rattle.use_decls.specs.Conds.{cond_decl, group_of, is_group, name_or, named_behind, op_of_kind};
 ghost use Rattle.use_decls.specs.Counts.{count_in};
 
 use crate::conds::CondPart;
-use class_decls::{CondDecl, CondKind, Name, OpOf};
+use class_decls::{CondDecl, CondKind, Name, OpDecl, op_text};
 use ocl_values::Text;
 use std::alloc::{AllocError, Global};
 use std::collections::BTreeMap;
@@ -23,32 +23,23 @@ pub(crate) struct Group {
 /// How many conditions of each group there are.
 type Counts = BTreeMap<Group, u64>;
 
-fn op_text(op: &OpOf) -> &str
-    ensures { result.now ≡ op_text op.now }
-{
-    match op {
-        OpOf::Here(name) => name.text.as_str(),
-        OpOf::Named(head) => head.name.text.as_str(),
-    }
-}
-
-fn op_of_kind(kind: &CondKind) -> &str
-    ensures { result.now ≡ op_of_kind kind.now }
+fn op_of_kind<'a>(context_heads: &'a [OpDecl], kind: &'a CondKind) -> &'a str
+    ensures { result.now ≡ op_of_kind context_heads.now kind.now }
 {
     match kind {
         CondKind::Inv => "",
-        CondKind::Pre(op) => op_text(op),
-        CondKind::Post(op) => op_text(op),
+        CondKind::Pre(op) => op_text(context_heads, op),
+        CondKind::Post(op) => op_text(context_heads, op),
     }
 }
 
-fn group_of(alloc: Global, part: &CondPart) -> Result<Group, AllocError>
-    ensures { IfOk result (λ g. g ≡ group_of part.now) }
+fn group_of(alloc: Global, context_heads: &[OpDecl], part: &CondPart) -> Result<Group, AllocError>
+    ensures { IfOk result (λ g. g ≡ group_of context_heads.now part.now) }
 {
     Ok(Group {
         word: Text::copy_of(alloc, part.word.text.as_str())?,
         class: Text::copy_of(alloc, part.class.text.as_str())?,
-        op: Text::copy_of(alloc, op_of_kind(&part.kind))?,
+        op: Text::copy_of(alloc, op_of_kind(context_heads, &part.kind))?,
     })
 }
 
@@ -105,15 +96,19 @@ fn cond_decl(alloc: Global, number: u64, part: CondPart) -> Result<CondDecl, All
     })
 }
 
-/// The conditions, those that write no name named by their numbers.
-pub(crate) fn named(alloc: Global, parts: Vec<CondPart>) -> Result<Items<CondDecl>, AllocError>
-    ensures { IfOk result (λ conds. conds ≡ named_behind [] parts.items) }
+/// The conditions, those that write no name named by their numbers, where contexts name these heads.
+pub(crate) fn named(
+    alloc: Global,
+    context_heads: &[OpDecl],
+    parts: Vec<CondPart>,
+) -> Result<Items<CondDecl>, AllocError>
+    ensures { IfOk result (λ conds. conds ≡ named_behind context_heads.now [] parts.items) }
 {
     let _ = parts.len();
     let mut counts = BTreeMap::new(alloc);
     let mut conds = Items::new(alloc);
     'parts: for part in parts {
-        let number = count_one(&mut counts, group_of(alloc, &part)?)?;
+        let number = count_one(&mut counts, group_of(alloc, context_heads, &part)?)?;
         let cond = cond_decl(alloc, number, part)?;
         conds.push(cond)?;
     }

@@ -126,29 +126,37 @@ fn add_assoc(alloc: Global, assoc: &AssocDecl, out: &mut String) -> Result<(), A
     add_end(alloc, &assoc.second, out)
 }
 
-fn add_op_of(alloc: Global, op: &OpOf, out: &mut String) -> Result<(), AllocError> {
+fn add_op_of(alloc: Global, decls: &Decls, op: &OpOf, out: &mut String) -> Result<(), AllocError> {
     match op {
         OpOf::Here(name) => {
             add(out, " here")?;
             add_name(alloc, name, out)
         }
-        OpOf::Named(head) => {
+        OpOf::Named(at) => {
             add(out, " named")?;
-            add_head(alloc, head, out)
+            match decls.context_heads.get(*at) {
+                None => add(out, " past"),
+                Some(head) => add_head(alloc, head, out),
+            }
         }
     }
 }
 
-fn add_cond(alloc: Global, cond: &CondDecl, out: &mut String) -> Result<(), AllocError> {
+fn add_cond(
+    alloc: Global,
+    decls: &Decls,
+    cond: &CondDecl,
+    out: &mut String,
+) -> Result<(), AllocError> {
     match &cond.kind {
         CondKind::Inv => add(out, "inv")?,
         CondKind::Pre(op) => {
             add(out, "pre")?;
-            add_op_of(alloc, op, out)?;
+            add_op_of(alloc, decls, op, out)?;
         }
         CondKind::Post(op) => {
             add(out, "post")?;
-            add_op_of(alloc, op, out)?;
+            add_op_of(alloc, decls, op, out)?;
         }
     }
     add(out, " of")?;
@@ -177,7 +185,7 @@ pub(crate) fn shown(alloc: Global, decls: &Decls) -> Result<String, AllocError> 
         add_assoc(alloc, assoc, &mut out)?;
     }
     'conds: for cond in decls.conds.as_slice() {
-        add_cond(alloc, cond, &mut out)?;
+        add_cond(alloc, decls, cond, &mut out)?;
     }
     Ok(out)
 }

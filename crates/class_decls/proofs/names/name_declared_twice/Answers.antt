@@ -13,4 +13,4 @@ returns c =
     (rw c.new-names.ensures.items at c.in_ok-add_types.ensures)
     (rw c.as_slice.ensures at c.in_ok-add_literals.ensures)
     (rw (c.as_slice-2.ensures.value, params) at c.in_ok-add_params.ensures)
-    (rw c.as_slice-3.ensures at c.in_ok-add_conds.ensures))
+    (rw (c.as_slice-3.ensures, c.as_slice-4.ensures) at c.in_ok-add_conds.ensures))

@@ -1,19 +1,26 @@
-use Rattle.std.proofs.Common.{◌++◌, ap, sym, ◌∙◌}
+use Rattle.std.proofs.Common.{◌++◌, length, ap, sym, ◌∙◌}
 use Rattle.std.specs.List.{flat_map}
-use Rattle.use_decls.specs.Conds.{conds_at}
-use Rattle.use_decls.proofs.Stepwise.{flat_map_step}
+use Rattle.use_decls.specs.Conds.{behind_heads, conds_at, heads_at}
+use Rattle.use_decls.proofs.Stepwise.{behind_step, flat_map_step}
 use Rattle.use_decls.proofs.conds.all_conds.Goals as goal
 
 pub nodes-preserved : goal.nodes-preserved
 nodes-preserved c =
+    let h = heads_at c.args.lexed.now in
     let f = conds_at c.args.lexed.now in
     let rest = c.next.new.self in
+    let heads = c.in_ok-add_conds.ensures.heads in
     record {
       can = tt;
       ends = tt;
       so_far =
-          ap (λ l. l ++ flat_map f rest) (c.in_ok-add_conds.ensures)
-          ∙ flat_map_step f c.nodes.found.items c.in-Some.node rest
-          ∙ ap (λ l. c.nodes.found.items ++ flat_map f l) (sym c.in-Some.ensures.steps)
+          ap (λ l. l ++ behind_heads h f (length c.add_conds.new.heads) rest) c.in_ok-add_conds.ensures.conds
+          ∙ behind_step h f c.nodes.found.items c.nodes.heads c.add_conds.new.heads c.in-Some.node rest heads
+          ∙ ap (λ l. c.nodes.found.items ++ behind_heads h f (length c.nodes.heads) l) (sym c.in-Some.ensures.steps)
           ∙ c.nodes.invariant.so_far;
+      named =
+          ap (λ l. l ++ flat_map h rest) heads
+          ∙ flat_map_step h c.nodes.heads c.in-Some.node rest
+          ∙ ap (λ l. c.nodes.heads ++ flat_map h l) (sym c.in-Some.ensures.steps)
+          ∙ c.nodes.invariant.named;
     }

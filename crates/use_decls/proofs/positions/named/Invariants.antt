@@ -9,6 +9,6 @@ use Rattle.use_decls.proofs.positions.named.Given as goal
 abbrev pub invariant-parts : goal.invariant-parts
 invariant-parts l = record {
   whole : l.fn.parts.items ≡ l.yielded ++ into_iter_items l.part-iterator;
-  so_far : l.conds ++ named_behind l.yielded (into_iter_items l.part-iterator) ≡ named_behind [] l.fn.parts.items;
-  counts : (g : Group) → count_in l.counts g ≡ count_by (is_in g) l.yielded;
+  so_far : l.conds ++ named_behind l.context_heads l.yielded (into_iter_items l.part-iterator) ≡ named_behind l.context_heads [] l.fn.parts.items;
+  counts : (g : Group) → count_in l.counts g ≡ count_by (is_in l.context_heads g) l.yielded;
 }
