@@ -2,6 +2,3 @@ use Rattle.use_shell.proofs.tests.models.a_model_has_as_much_as_it_may_and_no_mo
 
 abbrev pub ghosts-answer : goal.ghosts-answer
 ghosts-answer g a = record { name = a.blank.name; parts = a.blank.parts }
-
-abbrev pub ghosts-answer-2 : goal.ghosts-answer-2
-ghosts-answer-2 g a = record { name = a.blank.name; parts = a.blank.parts }

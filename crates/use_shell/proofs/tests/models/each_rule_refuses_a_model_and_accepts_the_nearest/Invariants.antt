@@ -2,6 +2,3 @@ use Rattle.use_shell.proofs.tests.models.each_rule_refuses_a_model_and_accepts_t
 
 abbrev pub ghosts-answer : goal.ghosts-answer
 ghosts-answer g a = record { name = a.blank.name; parts = a.blank.parts }
-
-abbrev pub ghosts-answer-2 : goal.ghosts-answer-2
-ghosts-answer-2 g a = record { name = a.blank.name; parts = a.blank.parts }
