@@ -1,8 +1,9 @@
 -- One element more of what is made of a list.
-use Rattle.std.proofs.Common.{◌≡◌, ℕ, zero, suc, ◌+◌, ◌<◌, Bool, true, false, cond, List, [], ◌∷◌, ◌++◌, length, get_or, take, map, filter, refl, sym, ap, ◌∙◌, arith, append_assoc}
+use Rattle.std.proofs.Common.{◌≡◌, ℕ, zero, suc, ◌+◌, ◌<◌, ◌≤◌, Bool, true, false, cond, nat_lt, List, [], ◌∷◌, ◌++◌, length, get_or, take, map, filter, refl, sym, ap, ◌∙◌, arith, append_assoc}
 use Rattle.std.specs.List.{AllByRecursion, enumerate_from, join_with_byte}
+use Rattle.std.proofs.lemmas.Bool.Decides.{nat_tests}
 use Rattle.std.proofs.lemmas.List.Elements.{filter-append}
-use Rattle.std.proofs.lemmas.Grind.{map-append}
+use Rattle.std.proofs.lemmas.List.{length-map, map-append}
 use Rattle.class_decls.proofs.Numbered.{take-more}
 
 each_from : {A B : Type 0} (f : ℕ × A → B) (n : ℕ) (xs : List A) (i : ℕ) (x : A) → i < length xs → x ≡ get_or xs i x →
@@ -48,3 +49,26 @@ joined_more c (y ∷ z ∷ rest) x h =
     ap (λ l. y ++ (c ∷ l)) (joined_more c (z ∷ rest) x (omega arith))
     ∙ sym (append_assoc y (c ∷ join_with_byte c (z ∷ rest) ++ c ∷ []) x ∙ refl)
     ∙ ap (λ l. l ++ x) (sym (append_assoc y (c ∷ join_with_byte c (z ∷ rest)) (c ∷ [])))
+
+taken : {A : Type 0} (xs : List A) (i : ℕ) → i ≤ length xs → length (take i xs) ≡ i
+taken xs zero h = refl
+taken [] (suc i) h = absurd (omega arith)
+taken (x ∷ xs) (suc i) h = let e = taken xs i (omega arith) in omega arith
+
+pub joined_next : (c : ℕ) (xs : List (List ℕ)) (x : List ℕ) (i : ℕ) → length xs ≡ i → (join_with_byte c xs ++ cond (nat_lt 0 i) (c ∷ []) []) ++ x ≡ join_with_byte c (xs ++ x ∷ [])
+joined_next c [] x i e = let t : nat_lt 0 i ≡ false = grind (arith, nat_tests) in ap (λ b. cond b (c ∷ []) [] ++ x) t
+joined_next c (y ∷ ys) x i e =
+    let t : nat_lt 0 i ≡ true = grind (arith, nat_tests) in
+    ap (λ b. (join_with_byte c (y ∷ ys) ++ cond b (c ∷ []) []) ++ x) t ∙ sym (joined_more c (y ∷ ys) x (omega arith))
+
+pub texts_more : {A : Type 0} (f : A → List ℕ) (c : ℕ) (xs : List A) (i : ℕ) (x : A) → i < length xs → x ≡ get_or xs i x →
+    (join_with_byte c (map f (take i xs)) ++ cond (nat_lt 0 i) (c ∷ []) []) ++ f x ≡ join_with_byte c (map f (take (i + 1) xs))
+texts_more f c xs i x h e =
+    joined_next c (map f (take i xs)) (f x) i (length-map (take i xs) f ∙ taken xs i (omega arith))
+    ∙ ap (join_with_byte c) (sym (ap (map f) (take-more xs i x h e) ∙ map-append f (take i xs) (x ∷ [])))
+
+-- numbers that are all low
+pub all_low : (n : ℕ) (c : ℕ) (xs : List ℕ) → c ≤ n → AllByRecursion (λ p. p < c) xs → (k d : ℕ) → k < length xs → get_or xs k d < n
+all_low n c [] h all k d i = absurd (omega arith)
+all_low n c (x ∷ xs) h all zero d i = let low : x < c = all.0 in omega arith
+all_low n c (x ∷ xs) h all (suc k) d i = all_low n c xs h all.1 k d (omega arith)

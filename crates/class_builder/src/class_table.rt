@@ -28,7 +28,7 @@ fn add_class<'a>(
 
 fn classes_at<'a>(
     alloc: Global,
-    classes: &'a [ClassDecl],
+    classes: &'a Items<ClassDecl>,
     places: &[usize],
 ) -> Result<Vec<&'a ClassDecl>, AllocError>
     ensures { IfOk result (λ v. map (λ c. c.now) v.items ≡ filter_map (slice_get classes.now) places.now) }
@@ -48,7 +48,7 @@ pub(crate) fn ordered<'a>(
     ensures { IfOk result (λ v. map (λ c. c.now) v.items ≡ ordered hierarchy.now) }
 {
     let decls = hierarchy.decls();
-    let classes = classes_at(alloc, decls.classes.as_slice(), hierarchy.order())?;
+    let classes = classes_at(alloc, &decls.classes, hierarchy.order())?;
     Ok(classes)
 }
 

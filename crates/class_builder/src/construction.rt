@@ -3,9 +3,9 @@ ghost use Rattle.class_rules.specs.WellFormed.{broken_rule};
 ghost use Rattle.class_builder.specs.Building.{Builds};
 ghost use Rattle.class_builder.specs.Models.{model_of};
 
-use crate::associations::associations;
-use crate::classes::{classes, enumerations, ordered};
+use crate::class_table::{classes, enumerations, ordered};
 use crate::features::{derived_attributes, operations, stored_attributes};
+use crate::multiplicities::associations;
 use crate::type_names::{class_numbers, type_names};
 use class_decls::Decls;
 use class_model::{ClassModel, ObjectModel};
