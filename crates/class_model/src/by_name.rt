@@ -10,7 +10,7 @@ use std::alloc::{AllocError, Global};
 use std::collections::BTreeMap;
 
 /// What names stand for.
-pub(crate) type ByName<V> = BTreeMap<String, V>;
+pub type ByName<V> = BTreeMap<String, V>;
 
 /// What has a name.
 pub(crate) trait Titled {
@@ -70,7 +70,7 @@ pub(crate) fn put<V: Drop>(
 }
 
 /// A name stands for this value, unless it stands for another already.
-pub(crate) fn add_first<V: Drop>(
+pub fn add_first<V: Drop>(
     alloc: Global,
     map: &mut ByName<V>,
     name: &str,

@@ -16,6 +16,7 @@ mod operations;
 mod readings;
 mod types;
 
+pub use by_name::{ByName, add_first};
 pub use class_decls::BodyKind;
 pub use class_model::ClassModel;
 pub use multiplicity::{Multiplicity, Span};

@@ -1,0 +1,10 @@
+use Rattle.std.proofs.Common.{[]}
+use Rattle.std.specs.BTreeMap.{get_by_text}
+use Rattle.class_decls.proofs.Numbered.{numbered_more}
+use Rattle.class_builder.specs.Models.{derived_in, type_by}
+use Rattle.class_builder.proofs.features.derived_attributes.Goals as goal
+
+pub classes-preserved : goal.classes-preserved
+classes-preserved c =
+    rw (c.in_ok-add_derived.ensures, c.as_slice.ensures, c.classes.invariant)
+    (numbered_more (λ n d. derived_in (type_by (λ text. get_by_text c.args.names.now text)) n d.now) [] _ _ _ c.classes-test.true c.index-classes-i.is)
