@@ -229,9 +229,10 @@ module _ (ds : Decls) (ok : broken_rule ds ≡ None) where
 
   literals_split : (first_given excess_literal (take 200 ds.enums) ≡ None) × (slice_get ds.enums 200 ≡ None)
   literals_split =
-      let e = few_literals ds ok in
-      (none_left (first_given excess_literal (take 200 ds.enums)) (option_map (λ e. e.name.place) (slice_get ds.enums 200)) e,
-      map_none (λ e. e.name.place) (slice_get ds.enums 200) (none_right (first_given excess_literal (take 200 ds.enums)) (option_map (λ e. e.name.place) (slice_get ds.enums 200)) e))
+      let e = few_literals ds ok in (
+        none_left (first_given excess_literal (take 200 ds.enums)) (option_map (λ e. e.name.place) (slice_get ds.enums 200)) e,
+        map_none (λ e. e.name.place) (slice_get ds.enums 200) (none_right (first_given excess_literal (take 200 ds.enums)) (option_map (λ e. e.name.place) (slice_get ds.enums 200)) e),
+      )
 
   pub few_enums : length ds.enums ≤ 200
   few_enums = short ds.enums 200 literals_split.1
@@ -244,7 +245,7 @@ module _ (ds : Decls) (ok : broken_rule ds ≡ None) where
   ends_some : AllByRecursion (λ a. 0 < length (ordered ds)) ds.assocs
   ends_some =
       let outside = front_nothing (places_outside (is_class ds) (class_references ds)) (places_outside (is_type ds) (type_references ds))
-          (nothing_first (places_outside (is_class ds) (class_references ds) ++ places_outside (is_type ds) (type_references ds)) (known ds ok)) in
+      (nothing_first (places_outside (is_class ds) (class_references ds) ++ places_outside (is_type ds) (type_references ds)) (known ds ok)) in
       let refs : AllByRecursion (λ n. is_class ds n.text ≡ true) (class_references ds) = all_known (is_class ds) (class_references ds) outside in
       let parents = flat_map (λ c. c.parents) ds.classes in
       let ends = flat_map (λ a. a.first.class ∷ a.second.class ∷ []) ds.assocs in
