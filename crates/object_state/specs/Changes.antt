@@ -1,5 +1,5 @@
 -- What a change makes of a state, and the change that takes it back.
-use Rattle.std.specs.Prelude.{ℕ, Option, Some, None, slice_set}
+use Rattle.std.specs.Prelude.{ℕ, List, Option, Some, None, slice_set}
 use Rattle.std.specs.BTreeMap.{insert_entry, is_at}
 use Rattle.std.specs.Map.{remove_entry, set_value}
 use Rattle.std.specs.Option.{option_map_or}
@@ -10,8 +10,8 @@ use Rattle.object_state.specs.declared.change.Change.TheVariants.{Create, Remove
 use Rattle.object_state.specs.declared.change.LinkChange.{LinkChange}
 use Rattle.object_state.specs.declared.change.ObjectChange.{ObjectChange}
 use Rattle.object_state.specs.declared.layout.Layout.{Layout}
-use Rattle.object_state.specs.declared.object.Object.{Object}
-use Rattle.object_state.specs.declared.object.Variable.{Variable}
+use Rattle.object_state.specs.declared.objects.Object.{Object}
+use Rattle.object_state.specs.declared.objects.Variable.{Variable}
 use Rattle.object_state.specs.Layouts.{place}
 use Rattle.object_state.specs.State.{State, object, link_cmp, text_cmp}
 

@@ -9,11 +9,11 @@ use Rattle.object_state.specs.declared.change.Change.{Change}
 use Rattle.object_state.specs.declared.change.Change.TheVariants.{Create, Remove, SetSlot, Link, Unlink, Bind, Unbind}
 use Rattle.object_state.specs.declared.change.LinkChange.{LinkChange}
 use Rattle.object_state.specs.declared.change.ObjectChange.{ObjectChange}
-use Rattle.object_state.specs.declared.fault.StoreFault.{StoreFault}
-use Rattle.object_state.specs.declared.fault.StoreFault.TheVariants.{X1, X2, X3, X4, X5, X6, X7, X8, X15}
+use Rattle.object_state.specs.declared.store_fault.StoreFault.{StoreFault}
+use Rattle.object_state.specs.declared.store_fault.StoreFault.TheVariants.{X1, X2, X3, X4, X5, X6, X7, X8, X15}
 use Rattle.object_state.specs.declared.layout.Layout.{Layout}
-use Rattle.object_state.specs.declared.object.Object.{Object}
-use Rattle.object_state.specs.declared.object.Variable.{Variable}
+use Rattle.object_state.specs.declared.objects.Object.{Object}
+use Rattle.object_state.specs.declared.objects.Variable.{Variable}
 use Rattle.object_state.specs.Changes.{object_of}
 use Rattle.object_state.specs.Layouts.{attrs, is_abstract, may_stand, slot}
 use Rattle.object_state.specs.State.{State, object, object_named, link, variable, stamp_of}

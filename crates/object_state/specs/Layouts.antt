@@ -11,7 +11,7 @@ use Rattle.class_model.specs.Inheritance as model_classes
 use Rattle.object_state.specs.declared.layout.AssocLayout.{AssocLayout}
 use Rattle.object_state.specs.declared.layout.ClassLayout.{ClassLayout}
 use Rattle.object_state.specs.declared.layout.Layout.{Layout}
-use Rattle.object_state.specs.declared.object.Object.{Object}
+use Rattle.object_state.specs.declared.objects.Object.{Object}
 
 -- the layout of a model
 abbrev pub class_layout : ObjectModel → ℕ → Bool → ClassLayout

@@ -1,16 +1,15 @@
 -- Object diagrams: the live objects, the links and the variables, each list in the order of its keys, and two counters.
-use Rattle.std.specs.Prelude.{ℕ, Bool, ◌&&◌, nat_eq, List, Option}
+use Rattle.std.specs.Prelude.{ℕ, ◌&&◌, nat_eq, List, [], Option}
 use Rattle.std.specs.declared.cmp.Ordering.{Ordering}
 use Rattle.std.specs.BTreeMap.{is_at}
-use Rattle.std.specs.Cmp.Lexicographic.{slice_cmp}
+use Rattle.std.specs.Cmp.Lexicographic.{pointwise, slice_cmp}
 use Rattle.std.specs.List.{find}
 use Rattle.std.specs.Map.{lookup}
 use Rattle.std.specs.Option.{option_map}
 use Rattle.std.specs.Ordering.{nat_cmp, ordering_then}
-use Rattle.class_decls.specs.Texts.{same_text}
 use Rattle.object_state.specs.declared.layout.Layout.{Layout}
-use Rattle.object_state.specs.declared.object.Object.{Object}
-use Rattle.object_state.specs.declared.object.Variable.{Variable}
+use Rattle.object_state.specs.declared.objects.Object.{Object}
+use Rattle.object_state.specs.declared.objects.Variable.{Variable}
 
 pub record State : Type 0 where
   -- objects by number
@@ -47,7 +46,7 @@ variable s name = lookup (is_at (text_cmp name)) s.variables
 
 -- the object of a name
 abbrev pub object_named : State → List ℕ → Option ℕ
-object_named s name = option_map (λ e. e.0) (find (λ e. same_text e.1.name name) s.objects)
+object_named s name = option_map (λ e. e.0) (find (λ e. pointwise nat_eq e.1.name name) s.objects)
 
 -- the stamp of the link of two objects in an association
 abbrev pub stamp_of : State → ℕ → ℕ → ℕ → Option ℕ

@@ -6,8 +6,8 @@ use Rattle.std.specs.Option.{option_map_or}
 use Rattle.ocl_values.specs.Shape.{size_of, sizes_of}
 use Rattle.object_state.specs.declared.change.Change.{Change}
 use Rattle.object_state.specs.declared.change.Change.TheVariants.{Create, Remove, SetSlot, Link, Unlink, Bind, Unbind}
-use Rattle.object_state.specs.declared.object.Object.{Object}
-use Rattle.object_state.specs.declared.object.Variable.{Variable}
+use Rattle.object_state.specs.declared.objects.Object.{Object}
+use Rattle.object_state.specs.declared.objects.Variable.{Variable}
 use Rattle.object_state.specs.State.{State}
 
 -- an object weighs 1 and the sizes of its values, a variable 1 and the size of its value

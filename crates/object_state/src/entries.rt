@@ -14,7 +14,7 @@ pub(crate) struct Entries<K, V> {
 }
 
 impl<K, V> Model for Entries<K, V> {
-    ghost use Rattle.std.specs.Prelude.{List, ◌×◌};
+    ghost use Rattle.std.specs.Prelude.{List};
     ghost use Rattle.std.specs.Coded.{coded_list, coded×};
 
     ghost Value = { List (K × V) };

@@ -20,10 +20,15 @@ pub struct PlainStore {
 }
 
 impl Model for PlainStore {
+    ghost use Rattle.std.specs.Coded.{codes};
+    ghost use Rattle.class_model.specs.contracts.types.OclType as types;
+    ghost use Rattle.ocl_values.specs.contracts.value.Value as values;
     ghost use Rattle.object_state.specs.State.{Diagram};
     ghost use Rattle.object_state.specs.Valid.{IsValid};
 
     ghost Value = { Diagram };
+
+    ghost coded = { Prim.hlevel (codes, types.the_row.coded, values.the_row.coded) };
 
     ghost view = { λ s. record { layout = s.layout; state = record { objects = s.objects; links = s.links; variables = s.variables; next_object = s.next_object; next_stamp = s.next_stamp } } };
 

@@ -7,44 +7,11 @@ ghost use Rattle.object_state.specs.Changes.{apply, inverse, object_of, with_slo
 ghost use Rattle.object_state.specs.Faults.{Fits};
 
 use crate::entries::Entries;
-use crate::object::copy_values;
-use crate::{Change, Layout, Object, ObjectChange, PlainStore, Variable};
+use crate::objects::{object_of, set_slot};
+use crate::{Change, Layout, Object, PlainStore};
 use class_model::AttrNo;
 use ocl_values::{ObjNo, Text, Value};
 use std::alloc::{AllocError, Global};
-use std::mem;
-use use_lists::Items;
-
-/// The object that a change brings.
-pub(crate) fn object_of(alloc: Global, new: &ObjectChange) -> Result<Object, AllocError>
-    ensures { IfOk result (λ x. x ≡ object_of new.now) }
-{
-    Ok(Object {
-        name: Text::copy_of(alloc, new.name.as_str())?,
-        class: new.class,
-        slots: copy_values(alloc, &new.slots)?,
-    })
-}
-
-/// Stores a value in an object, where it has the attribute.
-pub(crate) fn set_slot(
-    alloc: Global,
-    layout: &Layout,
-    object: &mut Object,
-    attr: AttrNo,
-    value: Value,
-)
-    ensures { object.new ≡ with_slot layout.now object.old attr value }
-{
-    if let Some(place) = layout.place(object.class, attr) {
-        let slots = mem::replace(&mut object.slots, Items::new(alloc));
-        let mut slots = slots.into_vec();
-        if place < slots.len() {
-            slots[place] = value;
-        }
-        object.slots = Items::from_vec(slots);
-    }
-}
 
 /// Stores a value in the object of a number, where it is live and has the attribute.
 fn set_slot_of(

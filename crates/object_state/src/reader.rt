@@ -1,5 +1,6 @@
-ghost use Rattle.std.specs.Prelude.{◌≡◌, length, map, IfOk, result_err};
+ghost use Rattle.std.specs.Prelude.{◌≡◌, length, map, IfOk};
 ghost use Rattle.std.specs.Option.{option_copied, option_map};
+ghost use Rattle.std.specs.Result.{result_err};
 ghost use Rattle.ocl_values.specs.declared.value.Value.TheVariants.{Obj};
 ghost use Rattle.object_state.specs.Faults.{OldPartsAgree, fault};
 ghost use Rattle.object_state.specs.Looks.{extent, joined, look};
@@ -7,7 +8,7 @@ ghost use Rattle.object_state.specs.State.{object, object_named, stamp_of, varia
 ghost use Rattle.object_state.specs.Valid.{IsValid};
 ghost use Rattle.object_state.specs.Weights.{weight};
 
-use crate::faults::fault;
+use crate::fitting::fault;
 use crate::looks::look_at;
 use crate::{Cell, Change, Layout, Look, Object, StoreFault, Variable};
 use class_model::{AssocNo, ClassNo, End};
@@ -26,8 +27,8 @@ pub trait StateReader {
         ensures { result.now ≡ (held self.now).layout };
 
     /// The object of a number.
-    fn object(&self, object: ObjNo) -> Option<&Object>
-        ensures { option_copied result ≡ object (held self.now).state object };
+    fn object(&self, number: ObjNo) -> Option<&Object>
+        ensures { option_copied result ≡ object (held self.now).state number };
 
     /// The number of the live object of a name.
     fn object_named(&self, name: &str) -> Option<ObjNo>
@@ -63,19 +64,19 @@ pub trait StateReader {
         alloc: Global,
         assoc: AssocNo,
         end: End,
-        object: ObjNo,
+        from: ObjNo,
     ) -> Result<Items<Value>, AllocError>
-        ensures { IfOk result (λ items. items ≡ map Obj (joined (held self.now).state assoc end object)) };
+        ensures { IfOk result (λ items. items ≡ map Obj (joined (held self.now).state assoc end from)) };
 
     /// The live objects of a class and its descendants, by number.
     fn objects_of(&self, alloc: Global, class: ClassNo) -> Result<Items<Value>, AllocError>
         ensures { IfOk result (λ items. items ≡ map Obj (extent (held self.now).layout (held self.now).state class)) };
 
     /// The name of a live object.
-    fn name_of(&self, object: ObjNo) -> Option<&str>
-        ensures { option_copied result ≡ option_map (λ x. x.name) (object (held self.now).state object) }
+    fn name_of(&self, number: ObjNo) -> Option<&str>
+        ensures { option_copied result ≡ option_map (λ x. x.name) (object (held self.now).state number) }
     {
-        match self.object(object) {
+        match self.object(number) {
             None => None,
             Some(live) => Some(live.name.as_str()),
         }

@@ -1,5 +1,6 @@
 ghost use Rattle.std.specs.Prelude.{◌≡◌, ◌<◌, ◌^◌, [], ◌∷◌, length, map, OnOk};
 ghost use Rattle.std.specs.List.{enumerate_from, flat_map};
+ghost use Rattle.class_model.specs.declared.numbers.End.TheVariants.{First, Second};
 ghost use Rattle.object_state.specs.declared.cell.Cell.TheVariants.{Kind, Slot, Nav, Extent};
 ghost use Rattle.object_state.specs.Touched.{cells_of, navs, navs_to, touched, with_cells};
 

@@ -73,7 +73,7 @@ pub(crate) fn variables_weight(variables: &[(Text, Variable)]) -> u64
 
 impl Change {
     /// What the change brings into a state.
-    pub(crate) fn gained(&self) -> u64
+    pub fn gained(&self) -> u64
         ensures { result ≡ min (gained self.now) (2 ^ 64 - 1) }
     {
         match self {
@@ -86,7 +86,7 @@ impl Change {
     }
 
     /// What the change takes out of a state.
-    pub(crate) fn lost(&self) -> u64
+    pub fn lost(&self) -> u64
         ensures { result ≡ min (lost self.now) (2 ^ 64 - 1) }
     {
         match self {

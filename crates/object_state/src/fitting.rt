@@ -1,4 +1,5 @@
-ghost use Rattle.std.specs.Prelude.{◌≡◌, ◌≤◌, [], ◌∷◌, ◌||◌, nat_eq, nat_le, length, Some, None};
+ghost use Rattle.std.specs.Prelude.{◌≡◌, ◌≤◌, [], ◌∷◌, ◌||◌, not, nat_eq, nat_le, length, Some, None};
+ghost use Rattle.object_state.specs.declared.store_fault.StoreFault.TheVariants.{X1, X2, X3, X4, X5, X6, X7, X8, X15};
 ghost use Rattle.std.specs.Option.{is_some};
 ghost use Rattle.object_state.specs.Faults.{OldPartsAgree, fault, first_fault, grows_too_large, is_gone, is_linked};
 ghost use Rattle.object_state.specs.Layouts.{is_abstract};
