@@ -5,7 +5,7 @@ use Rattle.std.specs.Cmp.{IsTotalOrder, eq_by_cmp_equiv}
 use Rattle.std.specs.List.{AllByRecursion, filter, find}
 use Rattle.std.specs.List.Sorted.{IsStrictlySortedBy}
 use Rattle.std.specs.Map.{keys_of, lookup, remove_entry, set_value}
-use Rattle.std.specs.Option.{is_some}
+use Rattle.std.specs.Option.{is_some, option_map}
 use Rattle.std.specs.Ordering.{eq_by_cmp, ordering_reverse, match_ordering}
 use Rattle.std.proofs.lemmas.Cmp.{tied_itself, tied_back, alike_right}
 use Rattle.std.proofs.lemmas.Map.{lookup-remove_entry, lookup-set_value}
@@ -99,7 +99,7 @@ module _ {K X : Type 0} {R : K → K → Ordering} (o : IsTotalOrder R) where
   find_some p (x ∷ xs) e h s =
       by_test (p x)
       (λ y. let here : x ≡ e = inside_some x e (sym (ap (λ b. cond b (Some x) (find p xs)) y) ∙ h) in
-          (subst (λ (z : K × X). lookup (is_at (R z.0)) (x ∷ xs) ≡ Some z.1) here (rw (tied_itself o x.0) refl), sym (ap p (sym here)) ∙ y))
+          (subst (λ (z : K × X). lookup (is_at (R z.0)) (x ∷ xs) ≡ Some z.1) here (rw (tied_itself o x.0) refl), ap p (sym here) ∙ y))
       (λ n. let r = find_some p xs e (sym (ap (λ b. cond b (Some x) (find p xs)) n) ∙ h) s.1 in
           let less : R x.0 e.0 ≡ Less = below_found xs x.0 e.0 e.1 s.0 r.0 in
           let more : R e.0 x.0 ≡ Greater = o.antisymm e.0 x.0 ∙ ap ordering_reverse less in
@@ -231,13 +231,13 @@ module _ {K X : Type 0} {R : K → K → Ordering} (o : IsTotalOrder R) (p : K �
       one false h = h
 
 -- how long a list is with one more entry, and with one less
-pub length_insert : {K X : Type 0} {R : K → K → Ordering} → (es : List (K × X)) (k : K) (v : X) → lookup (is_at (R k)) es ≡ None → length (insert_entry R es k v) ≡ suc (length es)
-length_insert [] k v n = refl
-length_insert {R = R} (e ∷ es) k v n =
+pub length_insert : {K X : Type 0} (R : K → K → Ordering) (es : List (K × X)) (k : K) (v : X) → lookup (is_at (R k)) es ≡ None → length (insert_entry R es k v) ≡ suc (length es)
+length_insert R [] k v n = refl
+length_insert R (e ∷ es) k v n =
     by_order (R k e.0)
     (λ l. rw l refl)
     (λ t. absurd (some≢none e.1 (sym (ap (λ r. cond (is_eq r) (Some e.1) (lookup (is_at (R k)) es)) t) ∙ n)))
-    (λ g. rw g (ap suc (length_insert es k v (sym (ap (λ r. cond (is_eq r) (Some e.1) (lookup (is_at (R k)) es)) g) ∙ n))))
+    (λ g. rw g (ap suc (length_insert R es k v (sym (ap (λ r. cond (is_eq r) (Some e.1) (lookup (is_at (R k)) es)) g) ∙ n))))
 
 pub length_remove : {K X : Type 0} (test : K → Bool) (es : List (K × X)) (v : X) → lookup test es ≡ Some v → suc (length (remove_entry test es)) ≡ length es
 length_remove test [] v e = absurd (some≢none v (sym e))
@@ -290,7 +290,7 @@ module _ {K X : Type 0} {R : K → K → Ordering} (o : IsTotalOrder R) (exact :
   gone_remove es k s = lookup_remove es k k s ∙ ap (λ r. cond (is_eq r) None (lookup (is_at (R k)) es)) (tied_itself o k)
 
   lookup_set : (es : List (K × X)) (k q : K) (w v : X) → lookup (is_at (R k)) es ≡ Some v → lookup (is_at (R q)) (set_value (is_at (R k)) es w) ≡ cond (is_at (R k) q) (Some w) (lookup (is_at (R q)) es)
-  lookup_set es k q w v e = lookup-set_value (eq_by_cmp_equiv o) (is_at (R k)) (λ x y t. ap is_eq (o.congr k x y (equal _ t))) q w es (rw e tt)
+  lookup_set es k q w v e = lookup-set_value (eq_by_cmp_equiv o) (is_at (R k)) (λ x y t. ap is_eq (o.congr k x y (equal _ t))) q w es (rw e refl)
 
   pub found_set : (es : List (K × X)) (k : K) (w v : X) (q : K) (x : X) → lookup (is_at (R k)) es ≡ Some v → lookup (is_at (R q)) (set_value (is_at (R k)) es w) ≡ Some x
       → ((q ≡ k) × (w ≡ x)) ⊎ (lookup (is_at (R q)) es ≡ Some x)
@@ -304,3 +304,9 @@ module _ {K X : Type 0} {R : K → K → Ordering} (o : IsTotalOrder R) (exact :
       by_test (is_at (R k) q)
       (λ y. absurd (apart (sym (exact k q (equal _ y)))))
       (λ n. lookup_set es k q w v there ∙ ap (λ b. cond b (Some w) (lookup (is_at (R q)) es)) n)
+
+-- a search for a key, and edits at the place where it is
+module _ {K X : Type 0} (test : K → Bool) where
+  pub find_lookup : (es : List (K × X)) → option_map (λ e. e.1) (find (λ e. test e.0) es) ≡ lookup test es
+  find_lookup [] = refl
+  find_lookup (e ∷ es) = by_test (test e.0) (λ y. rw y refl) (λ n. rw n (find_lookup es))

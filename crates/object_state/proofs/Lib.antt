@@ -1,3 +1,4 @@
 pub mod Keyed
 pub mod Back
 pub mod Weighed
+pub mod Kept

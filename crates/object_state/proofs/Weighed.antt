@@ -90,7 +90,7 @@ weighs l s (SetSlot o a old new) v f =
         (sum_by variable_weight (values_of s.variables)) (length s.links) (object_weight k.0) (object_weight x') (size_of old) (size_of new) e h
 weighs l s (Link d) v f =
     links_gain (sum_by object_weight (values_of s.objects)) (sum_by variable_weight (values_of s.variables)) (length (insert_entry link_cmp s.links (d.assoc, d.stamp) (d.first, d.second))) (length s.links)
-      (length_insert {R = link_cmp} s.links (d.assoc, d.stamp) (d.first, d.second) (link_free l s d f))
+      (length_insert link_cmp s.links (d.assoc, d.stamp) (d.first, d.second) (link_free l s d f))
 weighs l s (Unlink d) v f =
     let g : UnlinkingAgrees l s d = f.agrees in
     let k = faultless l s (Unlink d) f.faultless in

@@ -1,10 +1,16 @@
-ghost use Rattle.std.specs.Prelude.{◌≡◌, [], length, OnOk, OnErr};
+ghost use Rattle.std.specs.Prelude.{◌≡◌, [], length, not, OnOk, OnErr};
 ghost use Rattle.std.specs.BTreeMap.{insert_entry, is_at};
-ghost use Rattle.std.specs.Map.{lookup, remove_entry};
-ghost use Rattle.std.specs.Option.{option_copied};
+ghost use Rattle.std.specs.List.{position, position_or_len};
+ghost use Rattle.std.specs.Map.{lookup, remove_entry, set_value};
+ghost use Rattle.std.specs.Option.{option_copied, option_map_or};
+ghost use Rattle.std.specs.Ordering.{is_gt, nat_cmp};
+ghost use Rattle.object_state.specs.Changes.{with_slot};
 
+use crate::objects::set_slot;
+use crate::{Layout, Object};
+use class_model::AttrNo;
+use ocl_values::{ObjNo, Value};
 use std::alloc::{AllocError, Global};
-use std::cmp::Ordering;
 use std::marker::Model;
 
 /// A plain list of entries in the order of their keys.
@@ -22,6 +28,23 @@ impl<K, V> Model for Entries<K, V> {
     ghost coded = { coded_list (coded× K.code V.code) };
 
     ghost view = { λ e. e.entries.items };
+}
+
+/// Where a key is.
+fn place_at<K: Ord, V>(entries: &[(K, V)], key: &K) -> Option<usize>
+    ensures { result ≡ position (λ e. is_at (K.cmp key.now) e.0) entries.now }
+{
+    entries.iter().position(|entry| key.cmp(&entry.0).is_eq())
+}
+
+/// Before which entry a key goes, or where it is.
+fn place_for<K: Ord, V>(entries: &[(K, V)], key: &K) -> usize
+    ensures { result ≡ position_or_len (λ e. not (is_gt (K.cmp key.now e.0))) entries.now }
+{
+    entries
+        .iter()
+        .position(|entry| !key.cmp(&entry.0).is_gt())
+        .unwrap_or(entries.len())
 }
 
 impl<K, V> Entries<K, V> {
@@ -51,22 +74,10 @@ impl<K: Ord + Drop, V: Drop> Entries<K, V> {
     pub(crate) fn get(&self, key: &K) -> Option<&V>
         ensures { option_copied result ≡ lookup (is_at (K.cmp key.now)) self.now }
     {
-        'entries: for entry in self.entries.as_slice() {
-            if key.cmp(&entry.0) == Ordering::Equal {
-                return Some(&entry.1);
-            }
-        }
-        None
-    }
-
-    /// The value at a key, to be changed.
-    pub(crate) fn get_mut(&mut self, key: &K) -> Option<&mut V> {
-        'entries: for at in 0..self.entries.len() {
-            if key.cmp(&self.entries[at].0) == Ordering::Equal {
-                return Some(&mut self.entries[at].1);
-            }
-        }
-        None
+        self.entries
+            .iter()
+            .find(|entry| key.cmp(&entry.0).is_eq())
+            .map(|entry| &entry.1)
     }
 
     /// Puts a value at a key; an equal key stays.
@@ -74,16 +85,10 @@ impl<K: Ord + Drop, V: Drop> Entries<K, V> {
         ensures ok { OnOk result (self.new ≡ insert_entry K.cmp self.old key value) }
         ensures err { OnErr result (self.new ≡ self.old) }
     {
-        let mut at = 0;
-        'smaller: while at < self.entries.len() {
-            match key.cmp(&self.entries[at].0) {
-                Ordering::Less => break,
-                Ordering::Equal => {
-                    self.entries[at].1 = value;
-                    return Ok(());
-                }
-                Ordering::Greater => at += 1,
-            }
+        let at = place_for(self.entries.as_slice(), &key);
+        if at < self.entries.len() && key.cmp(&self.entries[at].0).is_eq() {
+            self.entries[at].1 = value;
+            return Ok(());
         }
         self.entries.insert(at, (key, value))?;
         Ok(())
@@ -93,11 +98,27 @@ impl<K: Ord + Drop, V: Drop> Entries<K, V> {
     pub(crate) fn remove(&mut self, key: &K)
         ensures { self.new ≡ remove_entry (is_at (K.cmp key.now)) self.old }
     {
-        'entries: for at in 0..self.entries.len() {
-            if key.cmp(&self.entries[at].0) == Ordering::Equal {
-                self.entries.remove(at);
-                return;
-            }
+        if let Some(at) = place_at(self.entries.as_slice(), key) {
+            self.entries.remove(at);
+        }
+    }
+}
+
+impl Entries<ObjNo, Object> {
+    /// Stores a value in the object of a number, where it is live and has the attribute.
+    pub(crate) fn set_slot(
+        &mut self,
+        alloc: Global,
+        layout: &Layout,
+        object: ObjNo,
+        attr: AttrNo,
+        value: Value,
+    )
+        ensures { self.new ≡ option_map_or (λ x. set_value (is_at (nat_cmp object)) self.old (with_slot layout.now x attr value)) (lookup (is_at (nat_cmp object)) self.old) self.old }
+    {
+        if let Some(at) = place_at(self.entries.as_slice(), &object) {
+            let entry = &mut self.entries[at];
+            set_slot(alloc, layout, &mut entry.1, attr, value);
         }
     }
 }

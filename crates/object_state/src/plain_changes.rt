@@ -1,33 +1,11 @@
-ghost use Rattle.std.specs.Prelude.{◌≡◌, OnOk, IfOk, Some};
-ghost use Rattle.std.specs.BTreeMap.{is_at};
-ghost use Rattle.std.specs.Map.{lookup, set_value};
-ghost use Rattle.std.specs.Option.{option_map_or};
-ghost use Rattle.std.specs.Ordering.{nat_cmp};
-ghost use Rattle.object_state.specs.Changes.{apply, inverse, object_of, with_slot};
+ghost use Rattle.std.specs.Prelude.{◌≡◌, OnOk, IfOk};
+ghost use Rattle.object_state.specs.Changes.{apply, inverse};
 ghost use Rattle.object_state.specs.Faults.{Fits};
 
-use crate::entries::Entries;
-use crate::objects::{object_of, set_slot};
-use crate::{Change, Layout, Object, PlainStore};
-use class_model::AttrNo;
-use ocl_values::{ObjNo, Text, Value};
-use std::alloc::{AllocError, Global};
-
-/// Stores a value in the object of a number, where it is live and has the attribute.
-fn set_slot_of(
-    alloc: Global,
-    layout: &Layout,
-    objects: &mut Entries<ObjNo, Object>,
-    object: ObjNo,
-    attr: AttrNo,
-    value: Value,
-)
-    ensures { objects.new ≡ option_map_or (λ x. set_value (is_at (nat_cmp object)) objects.old (with_slot layout.now x attr value)) (lookup (is_at (nat_cmp object)) objects.old) objects.old }
-{
-    if let Some(live) = objects.get_mut(&object) {
-        set_slot(alloc, layout, live, attr, value);
-    }
-}
+use crate::objects::object_of;
+use crate::{Change, PlainStore};
+use ocl_values::Text;
+use std::alloc::AllocError;
 
 impl PlainStore {
     /// Carries a change out, from copies of what it brings.
@@ -51,14 +29,8 @@ impl PlainStore {
                 object, attr, new, ..
             } => {
                 let value = new.try_copy(self.alloc)?;
-                set_slot_of(
-                    self.alloc,
-                    &self.layout,
-                    &mut self.objects,
-                    *object,
-                    *attr,
-                    value,
-                );
+                self.objects
+                    .set_slot(self.alloc, &self.layout, *object, *attr, value);
                 Ok(())
             }
             Change::Link(new) => {

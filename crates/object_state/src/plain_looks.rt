@@ -24,7 +24,7 @@ impl StateReader for PlainStore {
     }
 
     fn variable(&self, name: &str) -> Option<&Variable> {
-        self.variables.as_slice().iter().find(|entry| entry.0.as_str() == name).map(|entry| &entry.1)
+        self.variables.as_slice().iter().find(|entry| name.cmp(entry.0.as_str()).is_eq()).map(|entry| &entry.1)
     }
 
     fn stamp(&self, assoc: AssocNo, first: ObjNo, second: ObjNo) -> Option<u32> {
