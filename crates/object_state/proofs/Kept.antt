@@ -44,7 +44,7 @@ not_named : (u : Option (ℕ × Object)) → is_some (option_map (λ e. e.0) u) 
 not_named None h = refl
 not_named (Some e) h = absurd (true≢false h)
 
-not_stamped : (u : Option ℕ) → is_some u ≡ false → u ≡ None
+pub not_stamped : (u : Option ℕ) → is_some u ≡ false → u ≡ None
 not_stamped None h = refl
 not_stamped (Some e) h = absurd (true≢false h)
 
@@ -183,8 +183,6 @@ linked l s d v f =
     let below = other_number d.stamp last_number k.number in
     let ends = ends_live s d k.live in
     let none = not_stamped (stamp_of s d.assoc d.first d.second) k.fresh in
-    let key = (d.assoc, d.stamp) in
-    let pair = (d.first, d.second) in
     let found = found_insert link_total link_exact s.links (d.assoc, d.stamp) (d.first, d.second) in
     let links : LinksAreValid (insert_entry link_cmp s.links (d.assoc, d.stamp) (d.first, d.second)) d.after = record {
       ordered = sorted_insert link_total s.links (d.assoc, d.stamp) (d.first, d.second) v.links.ordered;
