@@ -3,3 +3,5 @@ pub mod Back
 pub mod Weighed
 pub mod Kept
 pub mod Refit
+pub mod Hits
+pub mod Altered

@@ -198,7 +198,7 @@ removed l s d v f =
       light = stays_small l s (Remove d) v f } in
     record { agrees = agrees; faultless = clear l t (Create (object_back d)) clean }
 
-get_set : {X : Type 0} (xs : List X) (i : ℕ) (v w : X) → slice_get xs i ≡ Some v → slice_get (slice_set xs i w) i ≡ Some w
+pub get_set : {X : Type 0} (xs : List X) (i : ℕ) (v w : X) → slice_get xs i ≡ Some v → slice_get (slice_set xs i w) i ≡ Some w
 get_set [] i v w h = absurd (some≢none v (sym h))
 get_set (x ∷ xs) zero v w h = refl
 get_set (x ∷ xs) (suc i) v w h = get_set xs i v w h

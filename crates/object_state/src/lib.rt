@@ -24,7 +24,8 @@ pub use cell::{Cell, Look};
 pub use cells::Cells;
 pub use change::{Change, LinkChange, ObjectChange};
 pub use laws::{
-    changes_are_taken_back, changes_keep_states_valid, touched_cells_are_altered,
+    changes_are_taken_back, changes_keep_states_valid, sets_have_what_they_are_given,
+    touched_cells_are_altered,
 };
 pub use layout::{AssocLayout, ClassLayout, Layout};
 pub use looks::{class_of, end_of, has_at, items_at, value_of};
