@@ -14,6 +14,7 @@ use Rattle.std.proofs.lemmas.Map.Lookups.{exact_unsigned}
 use Rattle.std.specs.Cmp.{nat_cmp_total}
 use Rattle.class_model.specs.declared.numbers.End.{End}
 use Rattle.class_model.specs.declared.numbers.End.TheVariants.{First, Second}
+use Rattle.class_model.specs.contracts.numbers.EndOrd.TheImpl.{ghosts as end_ghosts}
 use Rattle.class_model.specs.Ends.{opposite}
 use Rattle.object_state.specs.contracts.cell.CellOrd.TheImpl.Laws.{total-law}
 use Rattle.object_state.specs.declared.cell.Cell.{Cell}
@@ -41,8 +42,8 @@ same _ _ = false
 
 either_way : (a b : Bool) → (a ≡ true → b ≡ true) → (b ≡ true → a ≡ true) → a ≡ b
 either_way true true f g = refl
-either_way true false f g = f refl
-either_way false true f g = sym (g refl)
+either_way true false f g = sym (f refl)
+either_way false true f g = g refl
 either_way false false f g = refl
 
 pub nat_same : (a b : ℕ) → is_eq (nat_cmp a b) ≡ nat_eq a b
@@ -54,11 +55,25 @@ then_same Less q = refl
 then_same Equal q = refl
 then_same Greater q = refl
 
+three_same : (p q r : Ordering) → is_eq (ordering_then p (ordering_then q r)) ≡ (is_eq p && is_eq q && is_eq r)
+three_same Less q r = refl
+three_same Equal Less r = refl
+three_same Equal Equal r = refl
+three_same Equal Greater r = refl
+three_same Greater q r = refl
+
+end_same : (e f : End) → is_eq (end_ghosts.cmp e f) ≡ same_end e f
+end_same First First = refl
+end_same First Second = refl
+end_same Second First = refl
+end_same Second Second = refl
+
 cmp_same : (x y : Cell) → is_at (cell_cmp x) y ≡ same x y
 cmp_same (Kind p) (Kind o) = nat_same p o
 cmp_same (Slot p b) (Slot o a) = then_same (nat_cmp p o) (nat_cmp b a) ∙ ap₂ (λ x y. x && y) (nat_same p o) (nat_same b a)
-cmp_same (Nav a First p) (Nav b First o) = then_same (nat_cmp a b) (nat_cmp p o) ∙ ap₂ (λ x y. x && y) (nat_same a b) (nat_same p o) ∙ ?
-cmp_same _ _ = ?
+cmp_same (Nav a e p) (Nav b f o) = three_same (nat_cmp a b) (end_ghosts.cmp e f) (nat_cmp p o) ∙ (λ i. nat_same a b i && end_same e f i && nat_same p o i)
+cmp_same (Extent c) (Extent d) = nat_same c d
+cmp_same _ _ = refl
 
 pub has_same : (xs : List Cell) (x : Cell) → has_cell xs x ≡ list_any (same x) xs
 has_same [] x = refl
@@ -99,21 +114,21 @@ has_more cells (y ∷ ys) x =
     has_more (insert_key cell_cmp cells y) ys x ∙ ap (λ b. b || has_cell ys x) (has_insert cells y x) ∙ join_or (is_at (cell_cmp x) y) (has_cell cells x) (has_cell ys x)
 
 -- lists of one form
-none_of : {A : Type 0} (x : Cell) (f : A → Cell) (as : List A) → ((a : A) → same x (f a) ≡ false) → list_any (same x) (map f as) ≡ false
+none_of : {A : Type 0} (x : Cell) (f : A → Cell) (ys : List A) → ((a : A) → same x (f a) ≡ false) → list_any (same x) (map f ys) ≡ false
 none_of x f [] h = refl
-none_of x f (a ∷ as) h = ap₂ (λ p q. p || q) (h a) (none_of x f as h)
+none_of x f (a ∷ ys) h = ap₂ (λ p q. p || q) (h a) (none_of x f ys h)
 
 spread_or : (a b c : Bool) → ((a && b) || (a && c)) ≡ (a && (b || c))
 spread_or true b c = refl
 spread_or false b c = refl
 
-slots_hit : (p b o : ℕ) (as : List ℕ) → list_any (same (Slot p b)) (map (Slot o) as) ≡ (nat_eq p o && list_any (nat_eq b) as)
+slots_hit : (p b o : ℕ) (ys : List ℕ) → list_any (same (Slot p b)) (map (Slot o) ys) ≡ (nat_eq p o && list_any (nat_eq b) ys)
 slots_hit p b o [] = and_false (nat_eq p o)
   where
     and_false : (a : Bool) → false ≡ (a && false)
     and_false true = refl
     and_false false = refl
-slots_hit p b o (a ∷ as) = ap (λ z. (nat_eq p o && nat_eq b a) || z) (slots_hit p b o as) ∙ spread_or (nat_eq p o) (nat_eq b a) (list_any (nat_eq b) as)
+slots_hit p b o (a ∷ ys) = ap (λ z. (nat_eq p o && nat_eq b a) || z) (slots_hit p b o ys) ∙ spread_or (nat_eq p o) (nat_eq b a) (list_any (nat_eq b) ys)
 
 extents_hit : (c : ℕ) (ds : List ℕ) → list_any (same (Extent c)) (map Extent ds) ≡ list_any (nat_eq c) ds
 extents_hit c [] = refl
@@ -127,15 +142,15 @@ one_none l d a ends from to x h = by (is_a l d.class (class_at ends from))
     by true = ap (λ z. z || false) h
     by false = refl
 
-navs_none : (l : Layout) (d : ObjectChange) (n : ℕ) (as : List AssocLayout) (x : Cell) → ((a : ℕ) (e : End) → n < a + 1 → same x (Nav a e d.object) ≡ false)
-    → list_any (same x) (flat_map (λ a. navs l d a.0 a.1) (enumerate_from n as)) ≡ false
+navs_none : (l : Layout) (d : ObjectChange) (n : ℕ) (ys : List AssocLayout) (x : Cell) → ((a : ℕ) (e : End) → n < a + 1 → same x (Nav a e d.object) ≡ false)
+    → list_any (same x) (flat_map (λ a. navs l d a.0 a.1) (enumerate_from n ys)) ≡ false
 navs_none l d n [] x h = refl
-navs_none l d n (a ∷ as) x h =
-    list_any-append (same x) (navs l d n a) (flat_map (λ a. navs l d a.0 a.1) (enumerate_from (n + 1) as))
+navs_none l d n (a ∷ ys) x h =
+    list_any-append (same x) (navs l d n a) (flat_map (λ a. navs l d a.0 a.1) (enumerate_from (n + 1) ys))
     ∙ ap₂ (λ p q. p || q)
         (list_any-append (same x) (navs_to l d n a Second First) (navs_to l d n a First Second)
           ∙ ap₂ (λ p q. p || q) (one_none l d n a Second First x (h n First (omega arith))) (one_none l d n a First Second x (h n Second (omega arith))))
-        (navs_none l d (n + 1) as x (λ b e le. h b e (omega arith)))
+        (navs_none l d (n + 1) ys x (λ b e le. h b e (omega arith)))
 
 one_hit : (l : Layout) (d : ObjectChange) (a p : ℕ) (ends : AssocLayout) (from to : End)
     → list_any (same (Nav a to p)) (navs_to l d a ends from to) ≡ (nat_eq p d.object && is_a l d.class (class_at ends from))
@@ -182,33 +197,33 @@ first_navs l d a p Second ends =
     other true = refl
     other false = refl
 
-navs_hit : (l : Layout) (d : ObjectChange) (n k p : ℕ) (e : End) (as : List AssocLayout)
-    → list_any (same (Nav (n + k) e p)) (flat_map (λ a. navs l d a.0 a.1) (enumerate_from n as)) ≡ (nat_eq p d.object && option_map_or (λ x. is_a l d.class (class_at x (opposite e))) (slice_get as k) false)
+navs_hit : (l : Layout) (d : ObjectChange) (n k p : ℕ) (e : End) (ys : List AssocLayout)
+    → list_any (same (Nav (n + k) e p)) (flat_map (λ a. navs l d a.0 a.1) (enumerate_from n ys)) ≡ (nat_eq p d.object && option_map_or (λ x. is_a l d.class (class_at x (opposite e))) (slice_get ys k) false)
 navs_hit l d n k p e [] = and_false (nat_eq p d.object)
   where
     and_false : (a : Bool) → false ≡ (a && false)
     and_false true = refl
     and_false false = refl
-navs_hit l d n zero p e (a ∷ as) =
+navs_hit l d n zero p e (a ∷ ys) =
     let e0 : n + 0 ≡ n = omega arith in
-    ap (λ (m : ℕ). list_any (same (Nav m e p)) (flat_map (λ a. navs l d a.0 a.1) (enumerate_from n (a ∷ as)))) e0
-    ∙ list_any-append (same (Nav n e p)) (navs l d n a) (flat_map (λ a. navs l d a.0 a.1) (enumerate_from (n + 1) as))
+    ap (λ (m : ℕ). list_any (same (Nav m e p)) (flat_map (λ a. navs l d a.0 a.1) (enumerate_from n (a ∷ ys)))) e0
+    ∙ list_any-append (same (Nav n e p)) (navs l d n a) (flat_map (λ a. navs l d a.0 a.1) (enumerate_from (n + 1) ys))
     ∙ ap₂ (λ u v. u || v) (first_navs l d n p e a)
-        (navs_none l d (n + 1) as (Nav n e p) (λ b f le. ap (λ z. z && same_end e f && nat_eq p d.object) (differ n b (omega arith))))
+        (navs_none l d (n + 1) ys (Nav n e p) (λ b f le. ap (λ z. z && same_end e f && nat_eq p d.object) (differ n b (omega arith))))
     ∙ or_false _
   where
     or_false : (a : Bool) → (a || false) ≡ a
     or_false true = refl
     or_false false = refl
-navs_hit l d n (suc k) p e (a ∷ as) =
+navs_hit l d n (suc k) p e (a ∷ ys) =
     let e1 : n + suc k ≡ (n + 1) + k = omega arith in
     let apart : (f : End) → same (Nav (n + suc k) e p) (Nav n f d.object) ≡ false
       = λ f. ap (λ z. z && same_end e f && nat_eq p d.object) (by_test (nat_eq (n + suc k) n) (λ y. let q = eqb-true (n + suc k) n y in absurd (omega arith)) (λ m. m)) in
-    list_any-append (same (Nav (n + suc k) e p)) (navs l d n a) (flat_map (λ a. navs l d a.0 a.1) (enumerate_from (n + 1) as))
+    list_any-append (same (Nav (n + suc k) e p)) (navs l d n a) (flat_map (λ a. navs l d a.0 a.1) (enumerate_from (n + 1) ys))
     ∙ ap₂ (λ u v. u || v)
         (list_any-append (same (Nav (n + suc k) e p)) (navs_to l d n a Second First) (navs_to l d n a First Second)
           ∙ ap₂ (λ u v. u || v) (one_none l d n a Second First (Nav (n + suc k) e p) (apart First)) (one_none l d n a First Second (Nav (n + suc k) e p) (apart Second)))
-        (ap (λ (m : ℕ). list_any (same (Nav m e p)) (flat_map (λ a. navs l d a.0 a.1) (enumerate_from (n + 1) as))) e1 ∙ navs_hit l d (n + 1) k p e as)
+        (ap (λ (m : ℕ). list_any (same (Nav m e p)) (flat_map (λ a. navs l d a.0 a.1) (enumerate_from (n + 1) ys))) e1 ∙ navs_hit l d (n + 1) k p e ys)
 
 -- the cells of an object
 abbrev pub hits : Layout → ObjectChange → Cell → Bool
@@ -217,14 +232,15 @@ hits l d (Slot p b) = nat_eq p d.object && list_any (nat_eq b) (attrs l d.class)
 hits l d (Nav a e p) = nat_eq p d.object && may_stand l a (opposite e) d.class
 hits l d (Extent c) = is_a l d.class c
 
-three : (l : Layout) (d : ObjectChange) (x : Cell) → list_any (same x) (cells_of l d)
-    ≡ (same x (Kind d.object) || list_any (same x) (map (Slot d.object) (attrs l d.class)) || list_any (same x) (flat_map (λ a. navs l d a.0 a.1) (enumerate_from 0 l.assocs)) || list_any (same x) (map Extent (ancestors l d.class)))
-three l d x =
+three : (l : Layout) (d : ObjectChange) (x : Cell) (a b c e : Bool) → same x (Kind d.object) ≡ a → list_any (same x) (map (Slot d.object) (attrs l d.class)) ≡ b
+    → list_any (same x) (flat_map (λ a. navs l d a.0 a.1) (enumerate_from 0 l.assocs)) ≡ c → list_any (same x) (map Extent (ancestors l d.class)) ≡ e
+    → list_any (same x) (cells_of l d) ≡ (a || b || c || e)
+three l d x a b c e p q r t =
     list_any-append (same x) (Kind d.object ∷ map (Slot d.object) (attrs l d.class) ++ flat_map (λ a. navs l d a.0 a.1) (enumerate_from 0 l.assocs)) (map Extent (ancestors l d.class))
-    ∙ ap (λ z. z || list_any (same x) (map Extent (ancestors l d.class))) (list_any-append (same x) (Kind d.object ∷ map (Slot d.object) (attrs l d.class)) (flat_map (λ a. navs l d a.0 a.1) (enumerate_from 0 l.assocs)))
-
-four : (a b c e a' b' c' e' : Bool) → a ≡ a' → b ≡ b' → c ≡ c' → e ≡ e' → (a || b || c || e) ≡ (a' || b' || c' || e')
-four a b c e a' b' c' e' p q r s = λ i. p i || q i || r i || s i
+    ∙ ap₂ (λ y z. y || z)
+        (list_any-append (same x) (Kind d.object ∷ map (Slot d.object) (attrs l d.class)) (flat_map (λ a. navs l d a.0 a.1) (enumerate_from 0 l.assocs))
+          ∙ ap₂ (λ y z. y || z) (ap₂ (λ y z. y || z) p q) r)
+        t
 
 only_first : (a : Bool) → (a || false || false || false) ≡ a
 only_first true = refl
@@ -240,22 +256,25 @@ only_third false = refl
 
 pub cells_hit : (l : Layout) (d : ObjectChange) (x : Cell) → has_cell (cells_of l d) x ≡ hits l d x
 cells_hit l d (Kind p) =
-    has_same (cells_of l d) (Kind p) ∙ three l d (Kind p)
-    ∙ four _ _ _ _ _ _ _ _ refl (none_of (Kind p) (Slot d.object) (attrs l d.class) (λ a. refl)) (navs_none l d 0 l.assocs (Kind p) (λ a e h. refl)) (none_of (Kind p) Extent (ancestors l d.class) (λ a. refl))
+    has_same (cells_of l d) (Kind p)
+    ∙ three l d (Kind p) (nat_eq p d.object) false false false refl (none_of (Kind p) (Slot d.object) (attrs l d.class) (λ a. refl))
+        (navs_none l d 0 l.assocs (Kind p) (λ a e h. refl)) (none_of (Kind p) Extent (ancestors l d.class) (λ a. refl))
     ∙ only_first (nat_eq p d.object)
 cells_hit l d (Slot p b) =
-    has_same (cells_of l d) (Slot p b) ∙ three l d (Slot p b)
-    ∙ four _ _ _ _ _ _ _ _ refl (slots_hit p b d.object (attrs l d.class)) (navs_none l d 0 l.assocs (Slot p b) (λ a e h. refl)) (none_of (Slot p b) Extent (ancestors l d.class) (λ a. refl))
-    ∙ only_second _
+    has_same (cells_of l d) (Slot p b)
+    ∙ three l d (Slot p b) false (nat_eq p d.object && list_any (nat_eq b) (attrs l d.class)) false false refl (slots_hit p b d.object (attrs l d.class))
+        (navs_none l d 0 l.assocs (Slot p b) (λ a e h. refl)) (none_of (Slot p b) Extent (ancestors l d.class) (λ a. refl))
+    ∙ only_second (nat_eq p d.object && list_any (nat_eq b) (attrs l d.class))
 cells_hit l d (Nav a e p) =
-    has_same (cells_of l d) (Nav a e p) ∙ three l d (Nav a e p)
-    ∙ four _ _ _ _ _ _ _ _ refl (none_of (Nav a e p) (Slot d.object) (attrs l d.class) (λ a. refl))
+    has_same (cells_of l d) (Nav a e p)
+    ∙ three l d (Nav a e p) false false (nat_eq p d.object && may_stand l a (opposite e) d.class) false refl (none_of (Nav a e p) (Slot d.object) (attrs l d.class) (λ a. refl))
         (ap (λ (m : ℕ). list_any (same (Nav m e p)) (flat_map (λ a. navs l d a.0 a.1) (enumerate_from 0 l.assocs))) (zeroed a) ∙ navs_hit l d 0 a p e l.assocs)
         (none_of (Nav a e p) Extent (ancestors l d.class) (λ a. refl))
-    ∙ only_third _
+    ∙ only_third (nat_eq p d.object && may_stand l a (opposite e) d.class)
   where
     zeroed : (a : ℕ) → a ≡ 0 + a
     zeroed a = omega arith
 cells_hit l d (Extent c) =
-    has_same (cells_of l d) (Extent c) ∙ three l d (Extent c)
-    ∙ four _ _ _ _ _ _ _ _ refl (none_of (Extent c) (Slot d.object) (attrs l d.class) (λ a. refl)) (navs_none l d 0 l.assocs (Extent c) (λ a e h. refl)) (extents_hit c (ancestors l d.class))
+    has_same (cells_of l d) (Extent c)
+    ∙ three l d (Extent c) false false false (is_a l d.class c) refl (none_of (Extent c) (Slot d.object) (attrs l d.class) (λ a. refl))
+        (navs_none l d 0 l.assocs (Extent c) (λ a e h. refl)) (extents_hit c (ancestors l d.class))

@@ -1,5 +1,5 @@
 -- Entries in the order of their keys, with one more, one less, or another value at a key.
-use Rattle.std.proofs.Common.{◌≡◌, ℕ, ◌+◌, ◌≢◌, ◌⊎◌, inl, inr, suc, Bool, true, false, cond, ◌&&◌, List, [], ◌∷◌, length, Option, Some, None, refl, sym, ap, ◌∙◌, subst, true≢false, arith, Ordering, Less, Equal, Greater, is_eq}
+use Rattle.std.proofs.Common.{◌≡◌, ℕ, ◌+◌, ◌≢◌, ◌⊎◌, inl, inr, suc, Bool, true, false, cond, ◌&&◌, List, [], ◌∷◌, length, map, Option, Some, None, refl, sym, ap, ◌∙◌, subst, true≢false, arith, Ordering, Less, Equal, Greater, is_eq}
 use Rattle.std.specs.BTreeMap.{insert_entry, is_at}
 use Rattle.std.specs.Cmp.{IsTotalOrder, eq_by_cmp_equiv}
 use Rattle.std.specs.List.{AllByRecursion, filter, find}
@@ -310,3 +310,7 @@ module _ {K X : Type 0} (test : K → Bool) where
   pub find_lookup : (es : List (K × X)) → option_map (λ e. e.1) (find (λ e. test e.0) es) ≡ lookup test es
   find_lookup [] = refl
   find_lookup (e ∷ es) = by_test (test e.0) (λ y. rw y refl) (λ n. rw n (find_lookup es))
+
+pub map_twice : {A B C : Type 0} (f : B → C) (g : A → B) (xs : List A) → map (λ x. f (g x)) xs ≡ map f (map g xs)
+map_twice f g [] = refl
+map_twice f g (x ∷ xs) = ap (λ l. f (g x) ∷ l) (map_twice f g xs)

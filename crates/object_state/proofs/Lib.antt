@@ -5,3 +5,7 @@ pub mod Kept
 pub mod Refit
 pub mod Hits
 pub mod Altered
+pub mod Placed
+pub mod Bounds
+pub mod Empty
+pub mod Carried

@@ -1,8 +1,8 @@
-ghost use Rattle.std.specs.Prelude.{◌≡◌, [], length, not, OnOk, OnErr};
+ghost use Rattle.std.specs.Prelude.{◌≡◌, ◌<◌, [], false, length, not, slice_get, IsTrue, OnOk, OnErr};
 ghost use Rattle.std.specs.BTreeMap.{insert_entry, is_at};
-ghost use Rattle.std.specs.List.{position, position_or_len};
+ghost use Rattle.std.specs.List.{find, position};
 ghost use Rattle.std.specs.Map.{lookup, remove_entry, set_value};
-ghost use Rattle.std.specs.Option.{option_copied, option_map_or};
+ghost use Rattle.std.specs.Option.{option_copied, option_map, option_map_or, unwrap_or};
 ghost use Rattle.std.specs.Ordering.{is_gt, nat_cmp};
 ghost use Rattle.object_state.specs.Changes.{with_slot};
 
@@ -39,12 +39,33 @@ fn place_at<K: Ord, V>(entries: &[(K, V)], key: &K) -> Option<usize>
 
 /// Before which entry a key goes, or where it is.
 fn place_for<K: Ord, V>(entries: &[(K, V)], key: &K) -> usize
-    ensures { result ≡ position_or_len (λ e. not (is_gt (K.cmp key.now e.0))) entries.now }
+    ensures { result ≡ unwrap_or (position (λ e. not (is_gt (K.cmp key.now e.0))) entries.now) (length entries.now) }
 {
     entries
         .iter()
         .position(|entry| !key.cmp(&entry.0).is_gt())
         .unwrap_or(entries.len())
+}
+
+/// Whether the entry at a place has a key.
+fn holds<K: Ord, V>(entries: &[(K, V)], at: usize, key: &K) -> bool
+    ensures there { result ≡ option_map_or (λ e. is_at (K.cmp key.now) e.0) (slice_get entries.now at) false }
+    ensures within { IsTrue result → at < length entries.now }
+{
+    match entries.get(at) {
+        None => false,
+        Some(entry) => key.cmp(&entry.0).is_eq(),
+    }
+}
+
+/// The value at a key.
+fn value_at<'a, K: Ord, V>(entries: &'a [(K, V)], key: &K) -> Option<&'a V>
+    ensures { option_copied result ≡ option_map (λ e. e.1) (find (λ e. is_at (K.cmp key.now) e.0) entries.now) }
+{
+    entries
+        .iter()
+        .find(|entry| key.cmp(&entry.0).is_eq())
+        .map(|entry| &entry.1)
 }
 
 impl<K, V> Entries<K, V> {
@@ -74,10 +95,7 @@ impl<K: Ord + Drop, V: Drop> Entries<K, V> {
     pub(crate) fn get(&self, key: &K) -> Option<&V>
         ensures { option_copied result ≡ lookup (is_at (K.cmp key.now)) self.now }
     {
-        self.entries
-            .iter()
-            .find(|entry| key.cmp(&entry.0).is_eq())
-            .map(|entry| &entry.1)
+        value_at(self.entries.as_slice(), key)
     }
 
     /// Puts a value at a key; an equal key stays.
@@ -86,7 +104,7 @@ impl<K: Ord + Drop, V: Drop> Entries<K, V> {
         ensures err { OnErr result (self.new ≡ self.old) }
     {
         let at = place_for(self.entries.as_slice(), &key);
-        if at < self.entries.len() && key.cmp(&self.entries[at].0).is_eq() {
+        if holds(self.entries.as_slice(), at, &key) {
             self.entries[at].1 = value;
             return Ok(());
         }

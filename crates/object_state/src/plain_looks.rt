@@ -1,12 +1,64 @@
-ghost use Rattle.std.specs.Prelude.{◌≡◌};
+ghost use Rattle.std.specs.Prelude.{◌≡◌, IfOk, filter, find, map};
+ghost use Rattle.std.specs.BTreeMap.{is_at};
+ghost use Rattle.std.specs.Option.{option_copied, option_map};
+ghost use Rattle.ocl_values.specs.declared.value.Value.TheVariants.{Obj};
+ghost use Rattle.object_state.specs.Layouts.{is_a};
+ghost use Rattle.object_state.specs.Looks.{end_of, has_at};
+ghost use Rattle.object_state.specs.State.{text_cmp};
 
 use crate::looks::{end_of, has_at};
 use crate::weights::{objects_weight, variables_weight};
-use crate::{Layout, Object, PlainStore, StateReader, Variable};
+use crate::{Layout, LinkKey, Object, PlainStore, StateReader, Variable};
 use class_model::{AssocNo, ClassNo, End};
-use ocl_values::{ObjNo, Value};
+use ocl_values::{ObjNo, Text, Value};
 use std::alloc::{AllocError, Global};
 use use_lists::Items;
+
+/// The variable of a name.
+fn variable_in<'a>(variables: &'a [(Text, Variable)], name: &str) -> Option<&'a Variable>
+    ensures { option_copied result ≡ option_map (λ e. e.1) (find (λ e. is_at (text_cmp name.now) e.0) variables.now) }
+{
+    variables
+        .iter()
+        .find(|entry| name.cmp(entry.0.as_str()).is_eq())
+        .map(|entry| &entry.1)
+}
+
+/// The objects at one end of the links of an association that have an object at the other.
+fn joined_in(
+    alloc: Global,
+    links: &[(LinkKey, (ObjNo, ObjNo))],
+    assoc: AssocNo,
+    from: End,
+    object: ObjNo,
+    to: End,
+) -> Result<Items<Value>, AllocError>
+    ensures { IfOk result (λ items. items ≡ map (λ entry. Obj (end_of entry.1 to)) (filter (has_at assoc from object) links.now)) }
+{
+    let items = links
+        .iter()
+        .filter(|entry| has_at(assoc, from, object, entry))
+        .map(|entry| Value::Obj(end_of(entry.1, to)))
+        .collect(alloc)?;
+    Ok(Items::from_vec(items))
+}
+
+/// The objects of a class and its descendants.
+fn objects_in(
+    alloc: Global,
+    objects: &[(ObjNo, Object)],
+    layout: &Layout,
+    class: ClassNo,
+) -> Result<Items<Value>, AllocError>
+    ensures { IfOk result (λ items. items ≡ map (λ entry. Obj entry.0) (filter (λ entry. is_a layout.now entry.1.class class) objects.now)) }
+{
+    let items = objects
+        .iter()
+        .filter(|entry| layout.is_a(entry.1.class, class))
+        .map(|entry| Value::Obj(entry.0))
+        .collect(alloc)?;
+    Ok(Items::from_vec(items))
+}
 
 impl StateReader for PlainStore {
     ghost held = { λ s. s };
@@ -24,7 +76,7 @@ impl StateReader for PlainStore {
     }
 
     fn variable(&self, name: &str) -> Option<&Variable> {
-        self.variables.as_slice().iter().find(|entry| name.cmp(entry.0.as_str()).is_eq()).map(|entry| &entry.1)
+        variable_in(self.variables.as_slice(), name)
     }
 
     fn stamp(&self, assoc: AssocNo, first: ObjNo, second: ObjNo) -> Option<u32> {
@@ -59,25 +111,12 @@ impl StateReader for PlainStore {
         object: ObjNo,
     ) -> Result<Items<Value>, AllocError> {
         let from = end.opposite();
-        let items = self
-            .links
-            .as_slice()
-            .iter()
-            .filter(|entry| has_at(assoc, from, object, entry))
-            .map(|entry| Value::Obj(end_of(entry.1, end)))
-            .collect(alloc)?;
-        Ok(Items::from_vec(items))
+        let items = joined_in(alloc, self.links.as_slice(), assoc, from, object, end)?;
+        Ok(items)
     }
 
     fn objects_of(&self, alloc: Global, class: ClassNo) -> Result<Items<Value>, AllocError> {
-        let layout = &self.layout;
-        let items = self
-            .objects
-            .as_slice()
-            .iter()
-            .filter(|entry| layout.is_a(entry.1.class, class))
-            .map(|entry| Value::Obj(entry.0))
-            .collect(alloc)?;
-        Ok(Items::from_vec(items))
+        let items = objects_in(alloc, self.objects.as_slice(), &self.layout, class)?;
+        Ok(items)
     }
 }
