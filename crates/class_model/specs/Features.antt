@@ -1,5 +1,5 @@
 -- What a class has: attributes, roles and operations, its own and inherited ones.
-use Rattle.std.specs.Prelude.{ℕ, Bool, ◌&&◌, nat_eq, if◌then◌else◌, List, [], ◌∷◌, map, Option, Some, None, find, slice_get, unwrap_or}
+use Rattle.std.specs.Prelude.{ℕ, Bool, false, ◌&&◌, nat_eq, if◌then◌else◌, List, [], ◌∷◌, map, Option, Some, None, find, slice_get, unwrap_or}
 use Rattle.std.specs.List.{enumerate_from, filter_map, flat_map, list_all, list_any, position_from}
 use Rattle.std.specs.Option.{option_and_then, option_map_or}
 use Rattle.class_decls.specs.Texts.{first_numbered, same_text}

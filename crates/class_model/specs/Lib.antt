@@ -2,4 +2,3 @@ pub mod Ends
 pub mod Multiplicities
 pub mod Inheritance
 pub mod Features
-pub mod Conformance

@@ -1,8 +1,8 @@
 -- How many objects may stand at an end.
-use Rattle.std.specs.Prelude.{ℤ, pos, Bool, true, ◌&&◌, Option}
+use Rattle.std.specs.Prelude.{ℤ, pos, Bool, true, false, ◌&&◌, Option}
 use Rattle.std.specs.List.{list_all, list_any}
 use Rattle.std.specs.Option.{option_map_or}
-use Rattle.std.specs.Ordering.{int_cmp, is_le}
+use Rattle.std.specs.Ordering.{int_cmp, int_eq, is_le}
 use Rattle.class_model.specs.declared.multiplicity.Multiplicity.{Multiplicity}
 use Rattle.class_model.specs.declared.multiplicity.Span.{Span}
 

@@ -4,10 +4,11 @@ use Rattle.std.specs.BTreeMap.{insert_entry, is_at}
 use Rattle.std.specs.List.{insert, position, position_or_len, remove, slice_get}
 use Rattle.std.specs.Map.{lookup, remove_entry, set_value}
 use Rattle.std.specs.Option.{option_map, option_map_or, unwrap_or}
-use Rattle.std.specs.Ordering.{is_gt}
+use Rattle.std.specs.Ordering.{is_le, nat_cmp}
 use Rattle.std.specs.Prelude.{nat_lt}
 use Rattle.std.proofs.lemmas.Option.{get_or_from_slice_get}
 use Rattle.std.proofs.lemmas.Bool.{lt-ltb, ltb-true, ltb-false}
+use Rattle.object_state.specs.declared.objects.Object.{Object}
 use Rattle.object_state.proofs.Back.{inside_some}
 use Rattle.object_state.proofs.Keyed.{by_order, by_test, some≢none}
 
@@ -98,7 +99,7 @@ module _ {K X : Type 0} (test : K → Bool) where
 -- where a key goes: before the first key that is not below it
 module _ {K X : Type 0} (R : K → K → Ordering) (k : K) (v : X) where
   abbrev pub stops : K × X → Bool
-  stops e = not (is_gt (R k e.0))
+  stops e = is_le (R k e.0)
 
   abbrev pub goes : List (K × X) → ℕ
   goes es = unwrap_or (position stops es) (length es)
@@ -124,23 +125,23 @@ module _ {K X : Type 0} (R : K → K → Ordering) (k : K) (v : X) where
   equal_gets [] i x e g t = absurd (some≢none x (sym g))
   equal_gets (y ∷ ys) i x e g t =
       by_order (R k y.0)
-      (λ l. let at : i ≡ 0 = e ∙ goes_here y ys (ap (λ r. not (is_gt r)) l) in
+      (λ l. let at : i ≡ 0 = e ∙ goes_here y ys (ap is_le l) in
         let same : y ≡ x = inside_some y x (subst (λ (n : ℕ). slice_get (y ∷ ys) n ≡ Some x) at g) in
         absurd (true≢false (sym t ∙ ap (λ (z : K × X). is_at (R k) z.0) (sym same) ∙ ap is_eq l)))
-      (λ q. let at : i ≡ 0 = e ∙ goes_here y ys (ap (λ r. not (is_gt r)) q) in
+      (λ q. let at : i ≡ 0 = e ∙ goes_here y ys (ap is_le q) in
         let same : y ≡ x = inside_some y x (subst (λ (n : ℕ). slice_get (y ∷ ys) n ≡ Some x) at g) in
         rw (at, q) (ap (λ (z : K × X). (z.0, v) ∷ ys) (sym same)))
-      (λ h. let at : i ≡ suc (goes ys) = e ∙ goes_later y ys (ap (λ r. not (is_gt r)) h) in
+      (λ h. let at : i ≡ suc (goes ys) = e ∙ goes_later y ys (ap is_le h) in
         rw (at, h) (ap (λ l. y ∷ l) (equal_gets ys (goes ys) x refl (subst (λ (n : ℕ). slice_get (y ∷ ys) n ≡ Some x) at g) t)))
 
   pub other_goes : (es : List (K × X)) (i : ℕ) → i ≡ goes es → option_map_or (λ (e : K × X). is_at (R k) e.0) (slice_get es i) false ≡ false → insert es i (k, v) ≡ insert_entry R es k v
   other_goes [] i e f = rw (e) refl
   other_goes (y ∷ ys) i e f =
       by_order (R k y.0)
-      (λ l. let at : i ≡ 0 = e ∙ goes_here y ys (ap (λ r. not (is_gt r)) l) in rw (at, l) refl)
-      (λ q. let at : i ≡ 0 = e ∙ goes_here y ys (ap (λ r. not (is_gt r)) q) in
+      (λ l. let at : i ≡ 0 = e ∙ goes_here y ys (ap is_le l) in rw (at, l) refl)
+      (λ q. let at : i ≡ 0 = e ∙ goes_here y ys (ap is_le q) in
         absurd (true≢false (sym (ap is_eq q) ∙ subst (λ (n : ℕ). option_map_or (λ (e : K × X). is_at (R k) e.0) (slice_get (y ∷ ys) n) false ≡ false) at f)))
-      (λ h. let at : i ≡ suc (goes ys) = e ∙ goes_later y ys (ap (λ r. not (is_gt r)) h) in
+      (λ h. let at : i ≡ suc (goes ys) = e ∙ goes_later y ys (ap is_le h) in
         rw (at, h) (ap (λ l. y ∷ l) (other_goes ys (goes ys) refl
           (subst (λ (n : ℕ). option_map_or (λ (e : K × X). is_at (R k) e.0) (slice_get (y ∷ ys) n) false ≡ false) at f))))
 
@@ -154,3 +155,19 @@ module _ {K X : Type 0} (R : K → K → Ordering) (k : K) (v : X) where
       let r = found_there (slice_get es i) h in
       let is : y ≡ r.0 = same ∙ get_or_from_slice_get es i r.0 y r.1 in
       ap (λ (z : K × X). slice_set es i (z.0, v)) is ∙ equal_gets es i r.0 e r.1 r.2
+
+-- a value that is written at the place of a key
+module _ (f : Object → Object) (es : List (ℕ × Object)) (o : ℕ) where
+  abbrev edited : Option Object → List (ℕ × Object)
+  edited u = option_map_or (λ x. set_value (is_at (nat_cmp o)) es (f x)) u es
+
+  pub written : (i : ℕ) (y : ℕ × Object) (new : Object) → position (λ e. is_at (nat_cmp o) e.0) es ≡ Some i → y ≡ get_or es i y → new ≡ f y.1
+      → slice_set es i (y.0, new) ≡ option_map_or (λ x. set_value (is_at (nat_cmp o)) es (f x)) (lookup (is_at (nat_cmp o)) es) es
+  written i y new p q r =
+      ap (λ (z : ℕ × Object). slice_set es i (z.0, new)) q
+      ∙ set_at_place (is_at (nat_cmp o)) es i y new p
+      ∙ ap (λ (z : Object). set_value (is_at (nat_cmp o)) es z) (r ∙ ap (λ (z : ℕ × Object). f z.1) q)
+      ∙ sym (ap edited (lookup_at (is_at (nat_cmp o)) es i y p).0)
+
+  pub unwritten : position (λ e. is_at (nat_cmp o) e.0) es ≡ None → es ≡ option_map_or (λ x. set_value (is_at (nat_cmp o)) es (f x)) (lookup (is_at (nat_cmp o)) es) es
+  unwritten p = sym (ap edited (absent_lookup (is_at (nat_cmp o)) es p))

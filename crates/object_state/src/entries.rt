@@ -1,9 +1,9 @@
-ghost use Rattle.std.specs.Prelude.{◌≡◌, ◌<◌, [], false, length, not, slice_get, IsTrue, OnOk, OnErr};
+ghost use Rattle.std.specs.Prelude.{◌≡◌, ◌<◌, [], false, length, slice_get, IsTrue, OnOk, OnErr};
 ghost use Rattle.std.specs.BTreeMap.{insert_entry, is_at};
 ghost use Rattle.std.specs.List.{find, position};
 ghost use Rattle.std.specs.Map.{lookup, remove_entry, set_value};
 ghost use Rattle.std.specs.Option.{option_copied, option_map, option_map_or, unwrap_or};
-ghost use Rattle.std.specs.Ordering.{is_gt, nat_cmp};
+ghost use Rattle.std.specs.Ordering.{is_le, nat_cmp};
 ghost use Rattle.object_state.specs.Changes.{with_slot};
 
 use crate::objects::set_slot;
@@ -37,14 +37,21 @@ fn place_at<K: Ord, V>(entries: &[(K, V)], key: &K) -> Option<usize>
     entries.iter().position(|entry| key.cmp(&entry.0).is_eq())
 }
 
+/// The first entry whose key is not below a key.
+fn first_from<K: Ord, V>(entries: &[(K, V)], key: &K) -> Option<usize>
+    ensures { result ≡ position (λ e. is_le (K.cmp key.now e.0)) entries.now }
+{
+    entries.iter().position(|entry| key.cmp(&entry.0).is_le())
+}
+
 /// Before which entry a key goes, or where it is.
 fn place_for<K: Ord, V>(entries: &[(K, V)], key: &K) -> usize
-    ensures { result ≡ unwrap_or (position (λ e. not (is_gt (K.cmp key.now e.0))) entries.now) (length entries.now) }
+    ensures { result ≡ unwrap_or (position (λ e. is_le (K.cmp key.now e.0)) entries.now) (length entries.now) }
 {
-    entries
-        .iter()
-        .position(|entry| !key.cmp(&entry.0).is_gt())
-        .unwrap_or(entries.len())
+    match first_from(entries, key) {
+        None => entries.len(),
+        Some(at) => at,
+    }
 }
 
 /// Whether the entry at a place has a key.

@@ -35,12 +35,13 @@ fn joined_in(
 ) -> Result<Items<Value>, AllocError>
     ensures { IfOk result (λ items. items ≡ map (λ entry. Obj (end_of entry.1 to)) (filter (has_at assoc from object) links.now)) }
 {
-    let items = links
-        .iter()
-        .filter(|entry| has_at(assoc, from, object, entry))
-        .map(|entry| Value::Obj(end_of(entry.1, to)))
-        .collect(alloc)?;
-    Ok(Items::from_vec(items))
+    let mut items = Items::new(alloc);
+    'links: for entry in links {
+        if has_at(assoc, from, object, entry) {
+            items.push(Value::Obj(end_of(entry.1, to)))?;
+        }
+    }
+    Ok(items)
 }
 
 /// The objects of a class and its descendants.
@@ -49,15 +50,14 @@ fn objects_in(
     objects: &[(ObjNo, Object)],
     layout: &Layout,
     class: ClassNo,
-) -> Result<Items<Value>, AllocError>
-    ensures { IfOk result (λ items. items ≡ map (λ entry. Obj entry.0) (filter (λ entry. is_a layout.now entry.1.class class) objects.now)) }
+) -> Result<Vec<Value>, AllocError>
+    ensures { IfOk result (λ v. v.items ≡ map (λ entry. Obj entry.0) (filter (λ entry. is_a layout.now entry.1.class class) objects.now)) }
 {
-    let items = objects
+    objects
         .iter()
         .filter(|entry| layout.is_a(entry.1.class, class))
         .map(|entry| Value::Obj(entry.0))
-        .collect(alloc)?;
-    Ok(Items::from_vec(items))
+        .collect(alloc)
 }
 
 impl StateReader for PlainStore {
@@ -117,6 +117,6 @@ impl StateReader for PlainStore {
 
     fn objects_of(&self, alloc: Global, class: ClassNo) -> Result<Items<Value>, AllocError> {
         let items = objects_in(alloc, self.objects.as_slice(), &self.layout, class)?;
-        Ok(items)
+        Ok(Items::from_vec(items))
     }
 }

@@ -80,7 +80,8 @@ fn add_object(layout: &Layout, change: &ObjectChange, out: &mut Cells) -> Result
     out.add(Cell::Kind(change.object))?;
     add_slots(change.object, layout.attrs(change.class), out)?;
     add_all_navs(layout, change, out)?;
-    add_extents(layout.ancestors(change.class), out)
+    add_extents(layout.ancestors(change.class), out)?;
+    Ok(())
 }
 
 /// The two navigations of a link.
