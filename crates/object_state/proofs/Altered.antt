@@ -163,43 +163,43 @@ created : (l : Layout) (s : State) (d : ObjectChange) → IsValid l s → Fits l
 created l s d v f (Kind p) =
     by_number p d.object
     (λ eq.
-      let before : look l s (Kind p) ≡ L.Absent = ap kind_look (ap (λ (q : ℕ). object s q) eq ∙ free l s d f) in
-      let after : look l (apply l s (Create d)) (Kind p) ≡ L.Class d.class = ap kind_look (ap (λ (q : ℕ). object (apply l s (Create d)) q) eq ∙ put l s d) in
-      differing _ _ _ (eq-eqb p d.object eq) (λ e. absent_class d.class (sym before ∙ e ∙ after)))
+    let before : look l s (Kind p) ≡ L.Absent = ap kind_look (ap (λ (q : ℕ). object s q) eq ∙ free l s d f) in
+    let after : look l (apply l s (Create d)) (Kind p) ≡ L.Class d.class = ap kind_look (ap (λ (q : ℕ). object (apply l s (Create d)) q) eq ∙ put l s d) in
+    differing _ _ _ (eq-eqb p d.object eq) (λ e. absent_class d.class (sym before ∙ e ∙ after)))
     (λ ne. equal_looks _ _ _ (not_equal p d.object ne) (ap kind_look (sym (others l s d p ne))))
 created l s d v f (Slot p b) =
     by_number p d.object
     (λ eq.
-      let g : CreationAgrees l s d = f.agrees in
-      let before : look l s (Slot p b) ≡ L.Absent = ap (slot_look l b) (ap (λ (q : ℕ). object s q) eq ∙ free l s d f) in
-      let after : look l (apply l s (Create d)) (Slot p b) ≡ value_look (slot l (object_of d) b) = ap (slot_look l b) (ap (λ (q : ℕ). object (apply l s (Create d)) q) eq ∙ put l s d) in
-      alike (hits l d (Slot p b)) (list_any (nat_eq b) (attrs l d.class)) _ _ (first_true (nat_eq p d.object) _ (eq-eqb p d.object eq))
-        (known (list_any (nat_eq b) (attrs l d.class)) _ _
-          (λ h e.
-            let at = placed l d.class b h in
-            let value = get_there d.slots at.0 (subst (λ (n : ℕ). at.0 < n) (sym g.whole) at.2) in
-            absent_value value.0 (sym before ∙ e ∙ after ∙ ap (λ (u : Option ℕ). value_look (option_and_then (slice_get d.slots) u)) at.1 ∙ ap value_look value.1))
-          (λ h. before ∙ sym (after ∙ ap (λ (u : Option ℕ). value_look (option_and_then (slice_get d.slots) u)) (unplaced l d.class b h)))))
+    let g : CreationAgrees l s d = f.agrees in
+    let before : look l s (Slot p b) ≡ L.Absent = ap (slot_look l b) (ap (λ (q : ℕ). object s q) eq ∙ free l s d f) in
+    let after : look l (apply l s (Create d)) (Slot p b) ≡ value_look (slot l (object_of d) b) = ap (slot_look l b) (ap (λ (q : ℕ). object (apply l s (Create d)) q) eq ∙ put l s d) in
+    alike (hits l d (Slot p b)) (list_any (nat_eq b) (attrs l d.class)) _ _ (first_true (nat_eq p d.object) _ (eq-eqb p d.object eq))
+    (known (list_any (nat_eq b) (attrs l d.class)) _ _
+    (λ h e.
+    let at = placed l d.class b h in
+    let value = get_there d.slots at.0 (subst (λ (n : ℕ). at.0 < n) (sym g.whole) at.2) in
+    absent_value value.0 (sym before ∙ e ∙ after ∙ ap (λ (u : Option ℕ). value_look (option_and_then (slice_get d.slots) u)) at.1 ∙ ap value_look value.1))
+    (λ h. before ∙ sym (after ∙ ap (λ (u : Option ℕ). value_look (option_and_then (slice_get d.slots) u)) (unplaced l d.class b h)))))
     (λ ne. equal_looks _ _ _ (first_false (nat_eq p d.object) _ (not_equal p d.object ne)) (ap (slot_look l b) (sym (others l s d p ne))))
 created l s d v f (Nav a e p) =
     by_number p d.object
     (λ eq.
-      let items = map Obj (joined s a e p) in
-      let before : look l s (Nav a e p) ≡ L.Absent = ap (λ (u : Option Object). nav_look items (stand l a (opposite e) u)) (ap (λ (q : ℕ). object s q) eq ∙ free l s d f) in
-      let after : look l (apply l s (Create d)) (Nav a e p) ≡ nav_look items (may_stand l a (opposite e) d.class)
-        = ap (λ (u : Option Object). nav_look items (stand l a (opposite e) u)) (ap (λ (q : ℕ). object (apply l s (Create d)) q) eq ∙ put l s d) in
-      alike (hits l d (Nav a e p)) (may_stand l a (opposite e) d.class) _ _ (first_true (nat_eq p d.object) _ (eq-eqb p d.object eq))
-        (known (may_stand l a (opposite e) d.class) _ _
-          (λ h q. absent_items items (sym before ∙ q ∙ after ∙ ap (nav_look items) h))
-          (λ h. before ∙ sym (after ∙ ap (nav_look items) h))))
+    let items = map Obj (joined s a e p) in
+    let before : look l s (Nav a e p) ≡ L.Absent = ap (λ (u : Option Object). nav_look items (stand l a (opposite e) u)) (ap (λ (q : ℕ). object s q) eq ∙ free l s d f) in
+    let after : look l (apply l s (Create d)) (Nav a e p) ≡ nav_look items (may_stand l a (opposite e) d.class)
+    = ap (λ (u : Option Object). nav_look items (stand l a (opposite e) u)) (ap (λ (q : ℕ). object (apply l s (Create d)) q) eq ∙ put l s d) in
+    alike (hits l d (Nav a e p)) (may_stand l a (opposite e) d.class) _ _ (first_true (nat_eq p d.object) _ (eq-eqb p d.object eq))
+    (known (may_stand l a (opposite e) d.class) _ _
+    (λ h q. absent_items items (sym before ∙ q ∙ after ∙ ap (nav_look items) h))
+    (λ h. before ∙ sym (after ∙ ap (nav_look items) h))))
     (λ ne. equal_looks _ _ _ (first_false (nat_eq p d.object) _ (not_equal p d.object ne))
-      (ap (λ (u : Option Object). nav_look (map Obj (joined s a e p)) (stand l a (opposite e) u)) (sym (others l s d p ne))))
+    (ap (λ (u : Option Object). nav_look (map Obj (joined s a e p)) (stand l a (opposite e) u)) (sym (others l s d p ne))))
 created l s d v f (Extent c) =
     known (is_a l d.class c) _ _
     (λ h. longer (λ (e : ℕ × Object). e.0) (filter (λ (e : ℕ × Object). is_a l e.1.class c) s.objects) _
-      (filter_insert_in nat_cmp_total (λ (e : ℕ × Object). is_a l e.1.class c) s.objects d.object (object_of d) (free l s d f) h))
+    (filter_insert_in nat_cmp_total (λ (e : ℕ × Object). is_a l e.1.class c) s.objects d.object (object_of d) (free l s d f) h))
     (λ h. ap (λ (es : List (ℕ × Object)). L.Items (map Obj (map (λ (e : ℕ × Object). e.0) es)))
-      (sym (filter_insert_out nat_cmp_total (λ (e : ℕ × Object). is_a l e.1.class c) s.objects d.object (object_of d) (free l s d f) h)))
+    (sym (filter_insert_out nat_cmp_total (λ (e : ℕ × Object). is_a l e.1.class c) s.objects d.object (object_of d) (free l s d f) h)))
 
 -- a link that comes
 abbrev pub meets : LinkChange → Cell → Bool
@@ -252,15 +252,15 @@ linked l s d f (Nav b e p) =
     let t = apply l s (Link d) in
     known (meets d (Nav b e p)) _ _
     (λ h eq.
-      let r = both (nat_eq d.assoc b) (nat_eq (end_of (d.first, d.second) (opposite e)) p) h in
-      let assoc = eqb-true d.assoc b r.0 in
-      let object = eqb-true (end_of (d.first, d.second) (opposite e)) p r.1 in
-      let up : stands l s b (opposite e) p ≡ true = subst (λ (z : ℕ). stands l s z (opposite e) p ≡ true) assoc (subst (λ (z : ℕ). stands l s d.assoc (opposite e) z ≡ true) object (end_stands l s d f (opposite e))) in
-      longer (λ (x : (ℕ × ℕ) × (ℕ × ℕ)). end_of x.1 e) (filter q s.links) (filter q (insert_entry link_cmp s.links (d.assoc, d.stamp) (d.first, d.second)))
-        (filter_insert_in link_total q s.links (d.assoc, d.stamp) (d.first, d.second) here h)
-        (sym (ap (nav_look (map Obj (joined s b e p))) up) ∙ eq ∙ ap (nav_look (map Obj (joined t b e p))) up))
+    let r = both (nat_eq d.assoc b) (nat_eq (end_of (d.first, d.second) (opposite e)) p) h in
+    let assoc = eqb-true d.assoc b r.0 in
+    let object = eqb-true (end_of (d.first, d.second) (opposite e)) p r.1 in
+    let up : stands l s b (opposite e) p ≡ true = subst (λ (z : ℕ). stands l s z (opposite e) p ≡ true) assoc (subst (λ (z : ℕ). stands l s d.assoc (opposite e) z ≡ true) object (end_stands l s d f (opposite e))) in
+    longer (λ (x : (ℕ × ℕ) × (ℕ × ℕ)). end_of x.1 e) (filter q s.links) (filter q (insert_entry link_cmp s.links (d.assoc, d.stamp) (d.first, d.second)))
+    (filter_insert_in link_total q s.links (d.assoc, d.stamp) (d.first, d.second) here h)
+    (sym (ap (nav_look (map Obj (joined s b e p))) up) ∙ eq ∙ ap (nav_look (map Obj (joined t b e p))) up))
     (λ h. ap (λ (es : List ((ℕ × ℕ) × (ℕ × ℕ))). nav_look (map Obj (map (λ (x : (ℕ × ℕ) × (ℕ × ℕ)). end_of x.1 e) es)) (stands l s b (opposite e) p))
-      (sym (filter_insert_out link_total q s.links (d.assoc, d.stamp) (d.first, d.second) here h)))
+    (sym (filter_insert_out link_total q s.links (d.assoc, d.stamp) (d.first, d.second) here h)))
 
 -- a slot that gets another value
 get_other : {X : Type 0} (xs : List X) (i j : ℕ) (w : X) → i ≢ j → slice_get (slice_set xs i w) j ≡ slice_get xs j
@@ -292,19 +292,20 @@ filter_set q test [] x y h c = refl
 filter_set q test (e ∷ es) x y h c =
     by_test (test e.0)
     (λ k.
-      let here : e.1 ≡ x = inside_some e.1 x (sym (ap (λ b. cond b (Some e.1) (lookup test es)) k) ∙ h) in
-      rw k (keyed (q y.class) (q e.1.class) (ap q (c ∙ ap (λ (z : Object). z.class) (sym here)))))
+    let here : e.1 ≡ x = inside_some e.1 x (sym (ap (λ b. cond b (Some e.1) (lookup test es)) k) ∙ h) in
+    rw k (keyed (q y.class) (q e.1.class) (ap q (c ∙ ap (λ (z : Object). z.class) (sym here)))))
     (λ n. rw n (headed (q e.1.class) (filter_set q test es x y (sym (ap (λ b. cond b (Some e.1) (lookup test es)) n) ∙ h) c)))
   where
     keyed : (a b : Bool) → a ≡ b → map (λ (e : ℕ × Object). e.0) (cond a ((e.0, y) ∷ filter (λ (e : ℕ × Object). q e.1.class) es) (filter (λ (e : ℕ × Object). q e.1.class) es))
-      ≡ map (λ (e : ℕ × Object). e.0) (cond b (e ∷ filter (λ (e : ℕ × Object). q e.1.class) es) (filter (λ (e : ℕ × Object). q e.1.class) es))
+        ≡ map (λ (e : ℕ × Object). e.0) (cond b (e ∷ filter (λ (e : ℕ × Object). q e.1.class) es) (filter (λ (e : ℕ × Object). q e.1.class) es))
     keyed true true g = refl
     keyed true false g = absurd (true≢false g)
     keyed false true g = absurd (true≢false (sym g))
     keyed false false g = refl
+
     headed : (b : Bool) → map (λ (e : ℕ × Object). e.0) (filter (λ (e : ℕ × Object). q e.1.class) (set_value test es y)) ≡ map (λ (e : ℕ × Object). e.0) (filter (λ (e : ℕ × Object). q e.1.class) es)
-      → map (λ (e : ℕ × Object). e.0) (cond b (e ∷ filter (λ (e : ℕ × Object). q e.1.class) (set_value test es y)) (filter (λ (e : ℕ × Object). q e.1.class) (set_value test es y)))
-      ≡ map (λ (e : ℕ × Object). e.0) (cond b (e ∷ filter (λ (e : ℕ × Object). q e.1.class) es) (filter (λ (e : ℕ × Object). q e.1.class) es))
+        → map (λ (e : ℕ × Object). e.0) (cond b (e ∷ filter (λ (e : ℕ × Object). q e.1.class) (set_value test es y)) (filter (λ (e : ℕ × Object). q e.1.class) (set_value test es y)))
+        ≡ map (λ (e : ℕ × Object). e.0) (cond b (e ∷ filter (λ (e : ℕ × Object). q e.1.class) es) (filter (λ (e : ℕ × Object). q e.1.class) es))
     headed true g = ap (λ l. e.0 ∷ l) g
     headed false g = g
 
@@ -321,39 +322,42 @@ set l s o a old new z is at differ x = by x
   where
     class : (with_slot l z a new).class ≡ z.class
     class = class_set_at (place l z.class a) z new
+
     now : object (with_object s o (with_slot l z a new)) o ≡ Some (with_slot l z a new)
     now = lookup_set_here (is_at (nat_cmp o)) s.objects z (with_slot l z a new) is
+
     apart : (p : ℕ) → p ≢ o → object (with_object s o (with_slot l z a new)) p ≡ object s p
     apart p ne = kept_set nat_cmp_total exact_unsigned s.objects o (with_slot l z a new) z p is ne
+
     by : (x : Cell) → Tells (same x (Slot o a)) (look l s x) (look l (with_object s o (with_slot l z a new)) x)
     by (Kind p) = equal_looks false _ _ refl
-      (by_number p o
+        (by_number p o
         (λ eq. ap kind_look (ap (λ (q : ℕ). object s q) eq ∙ is) ∙ ap L.Class (sym class) ∙ sym (ap kind_look (ap (λ (q : ℕ). object (with_object s o (with_slot l z a new)) q) eq ∙ now)))
         (λ ne. ap kind_look (sym (apart p ne))))
     by (Slot p b) = by_number p o
-      (λ eq.
+        (λ eq.
         let before : look l s (Slot p b) ≡ value_look (slot l z b) = ap (slot_look l b) (ap (λ (q : ℕ). object s q) eq ∙ is) in
         let after : look l (with_object s o (with_slot l z a new)) (Slot p b) ≡ value_look (slot l (with_slot l z a new) b)
-          = ap (slot_look l b) (ap (λ (q : ℕ). object (with_object s o (with_slot l z a new)) q) eq ∙ now) in
+        = ap (slot_look l b) (ap (λ (q : ℕ). object (with_object s o (with_slot l z a new)) q) eq ∙ now) in
         by_number b a
         (λ eq'. differing _ _ _ (first_true (nat_eq p o) (nat_eq b a) (eq-eqb p o eq) ∙ eq-eqb b a eq')
-          (λ e. differ (inside_value old new (
-            sym (before ∙ ap (λ (q : ℕ). value_look (slot l z q)) eq' ∙ ap value_look at) ∙ e
-            ∙ after ∙ ap (λ (q : ℕ). value_look (slot l (with_slot l z a new) q)) eq'
-            ∙ ap value_look (slot_now (place l z.class a) (place l (with_slot l z a new).class a) z old new at (ap (λ (c : ℕ). place l c a) class))))))
+        (λ e. differ (inside_value old new (
+        sym (before ∙ ap (λ (q : ℕ). value_look (slot l z q)) eq' ∙ ap value_look at) ∙ e
+        ∙ after ∙ ap (λ (q : ℕ). value_look (slot l (with_slot l z a new) q)) eq'
+        ∙ ap value_look (slot_now (place l z.class a) (place l (with_slot l z a new).class a) z old new at (ap (λ (c : ℕ). place l c a) class))))))
         (λ ne. equal_looks _ _ _ (second_false (nat_eq p o) (nat_eq b a) (not_equal b a ne))
-          (before ∙ ap value_look (
-            sym (slot_other (place l z.class a) (place l z.class b) z new (λ i e e'. ne (sym (one_place l z.class a b i e e'))))
-            ∙ ap (λ (c : ℕ). option_and_then (slice_get (with_slot l z a new).slots) (place l c b)) (sym class)) ∙ sym after)))
-      (λ ne. equal_looks _ _ _ (first_false (nat_eq p o) (nat_eq b a) (not_equal p o ne)) (ap (slot_look l b) (sym (apart p ne))))
+        (before ∙ ap value_look (
+        sym (slot_other (place l z.class a) (place l z.class b) z new (λ i e e'. ne (sym (one_place l z.class a b i e e'))))
+        ∙ ap (λ (c : ℕ). option_and_then (slice_get (with_slot l z a new).slots) (place l c b)) (sym class)) ∙ sym after)))
+        (λ ne. equal_looks _ _ _ (first_false (nat_eq p o) (nat_eq b a) (not_equal p o ne)) (ap (slot_look l b) (sym (apart p ne))))
     by (Nav b e p) = equal_looks false _ _ refl
-      (by_number p o
+        (by_number p o
         (λ eq. ap (λ (u : Option Object). nav_look (map Obj (joined s b e p)) (stand l b (opposite e) u)) (ap (λ (q : ℕ). object s q) eq ∙ is)
-          ∙ ap (λ (c : ℕ). nav_look (map Obj (joined s b e p)) (may_stand l b (opposite e) c)) (sym class)
-          ∙ sym (ap (λ (u : Option Object). nav_look (map Obj (joined s b e p)) (stand l b (opposite e) u)) (ap (λ (q : ℕ). object (with_object s o (with_slot l z a new)) q) eq ∙ now)))
+        ∙ ap (λ (c : ℕ). nav_look (map Obj (joined s b e p)) (may_stand l b (opposite e) c)) (sym class)
+        ∙ sym (ap (λ (u : Option Object). nav_look (map Obj (joined s b e p)) (stand l b (opposite e) u)) (ap (λ (q : ℕ). object (with_object s o (with_slot l z a new)) q) eq ∙ now)))
         (λ ne. ap (λ (u : Option Object). nav_look (map Obj (joined s b e p)) (stand l b (opposite e) u)) (sym (apart p ne))))
     by (Extent c) = equal_looks false _ _ refl
-      (ap (λ (os : List ℕ). L.Items (map Obj os)) (sym (filter_set (λ k. is_a l k c) (is_at (nat_cmp o)) s.objects z (with_slot l z a new) is class)))
+        (ap (λ (os : List ℕ). L.Items (map Obj os)) (sym (filter_set (λ k. is_a l k c) (is_at (nat_cmp o)) s.objects z (with_slot l z a new) is class)))
 
 no_cell : (l : Layout) (s : State) (name : List ℕ) (old : Option Variable) (new : Variable) (x : Cell) → look l s x ≡ look l (apply l s (Bind name old new)) x
 no_cell l s name old new (Kind p) = refl
@@ -377,8 +381,8 @@ tells l s (SetSlot o a old new) x v f n =
     let g : SettingAgrees l s o a old new = f.agrees in
     let k = live (object s o) (faultless l s (SetSlot o a old new) f.faultless).live in
     alike _ _ _ _ (slot_only l o a old new x ∙ or_false (same x (Slot o a)))
-      (subst (λ (u : State). Tells (same x (Slot o a)) (look l s x) (look l u x)) (sym (apply_set l s o a old new k.0 k.1))
-        (set l s o a old new k.0 k.1 (g.same k.0 k.1) n x))
+    (subst (λ (u : State). Tells (same x (Slot o a)) (look l s x) (look l u x)) (sym (apply_set l s o a old new k.0 k.1))
+    (set l s o a old new k.0 k.1 (g.same k.0 k.1) n x))
 tells l s (Link d) x v f n = alike _ _ _ _ (pair_meets l d x) (linked l s d f x)
 tells l s (Unlink d) x v f n =
     let t = apply l s (Unlink d) in

@@ -21,17 +21,21 @@ empty_valid l = record {
     counter = omega arith;
     instances = λ o x e. absurd (some≢none x (sym e));
     names = λ o p x y e e' same. absurd (some≢none x (sym e));
-    below = λ o x e. absurd (some≢none x (sym e)) };
+    below = λ o x e. absurd (some≢none x (sym e));
+  };
   links = record {
     ordered = sorted_none link_cmp;
     fit = omega arith;
     counter = omega arith;
     once = λ k m p e e' same. absurd (some≢none p (sym e));
     stamps = λ k m p q e e' same. absurd (some≢none p (sym e));
-    below = λ k p e. absurd (some≢none p (sym e)) };
+    below = λ k p e. absurd (some≢none p (sym e));
+  };
   variables = record {
     ordered = sorted_none text_cmp;
-    values = λ n v e. absurd (some≢none v (sym e)) };
+    values = λ n v e. absurd (some≢none v (sym e));
+  };
   apart = λ o x e. absurd (some≢none x (sym e));
   joins = λ k p e. absurd (some≢none p (sym e));
-  light = omega arith }
+  light = omega arith;
+}

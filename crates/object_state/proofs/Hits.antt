@@ -113,6 +113,16 @@ has_more cells [] x = or_false (has_cell cells x)
 has_more cells (y ∷ ys) x =
     has_more (insert_key cell_cmp cells y) ys x ∙ ap (λ b. b || has_cell ys x) (has_insert cells y x) ∙ join_or (is_at (cell_cmp x) y) (has_cell cells x) (has_cell ys x)
 
+with_append : (cells a b : List Cell) → with_cells (with_cells cells a) b ≡ with_cells cells (a ++ b)
+with_append cells [] b = refl
+with_append cells (x ∷ xs) b = with_append (insert_key cell_cmp cells x) xs b
+
+-- a cell, and three lists one after another
+pub gathered : (s s1 s2 s3 s4 : List Cell) (k : Cell) (a b c : List Cell) → s1 ≡ insert_key cell_cmp s k → s2 ≡ with_cells s1 a → s3 ≡ with_cells s2 b → s4 ≡ with_cells s3 c
+    → s4 ≡ with_cells s (k ∷ a ++ b ++ c)
+gathered s s1 s2 s3 s4 k a b c p q r t =
+    t ∙ ap (λ l. with_cells l c) (r ∙ ap (λ l. with_cells l b) (q ∙ ap (λ l. with_cells l a) p) ∙ with_append (insert_key cell_cmp s k) a b) ∙ with_append (insert_key cell_cmp s k) (a ++ b) c
+
 -- lists of one form
 none_of : {A : Type 0} (x : Cell) (f : A → Cell) (ys : List A) → ((a : A) → same x (f a) ≡ false) → list_any (same x) (map f ys) ≡ false
 none_of x f [] h = refl
@@ -148,9 +158,9 @@ navs_none l d n [] x h = refl
 navs_none l d n (a ∷ ys) x h =
     list_any-append (same x) (navs l d n a) (flat_map (λ a. navs l d a.0 a.1) (enumerate_from (n + 1) ys))
     ∙ ap₂ (λ p q. p || q)
-        (list_any-append (same x) (navs_to l d n a Second First) (navs_to l d n a First Second)
-          ∙ ap₂ (λ p q. p || q) (one_none l d n a Second First x (h n First (omega arith))) (one_none l d n a First Second x (h n Second (omega arith))))
-        (navs_none l d (n + 1) ys x (λ b e le. h b e (omega arith)))
+    (list_any-append (same x) (navs_to l d n a Second First) (navs_to l d n a First Second)
+    ∙ ap₂ (λ p q. p || q) (one_none l d n a Second First x (h n First (omega arith))) (one_none l d n a First Second x (h n Second (omega arith))))
+    (navs_none l d (n + 1) ys x (λ b e le. h b e (omega arith)))
 
 one_hit : (l : Layout) (d : ObjectChange) (a p : ℕ) (ends : AssocLayout) (from to : End)
     → list_any (same (Nav a to p)) (navs_to l d a ends from to) ≡ (nat_eq p d.object && is_a l d.class (class_at ends from))
@@ -162,6 +172,7 @@ one_hit l d a p ends from to = by (is_a l d.class (class_at ends from))
         itself : (e : End) → same_end e e ≡ true
         itself First = refl
         itself Second = refl
+
     by : (b : Bool) → list_any (same (Nav a to p)) (cond b (Nav a to d.object ∷ []) []) ≡ (nat_eq p d.object && b)
     by true = ap (λ z. z || false) here ∙ or_false (nat_eq p d.object)
       where
@@ -186,6 +197,7 @@ first_navs l d a p First ends =
     other : (b : Bool) → (b && false && nat_eq p d.object) ≡ false
     other true = refl
     other false = refl
+
     or_false : (a : Bool) → (a || false) ≡ a
     or_false true = refl
     or_false false = refl
@@ -209,7 +221,7 @@ navs_hit l d n zero p e (a ∷ ys) =
     ap (λ (m : ℕ). list_any (same (Nav m e p)) (flat_map (λ a. navs l d a.0 a.1) (enumerate_from n (a ∷ ys)))) e0
     ∙ list_any-append (same (Nav n e p)) (navs l d n a) (flat_map (λ a. navs l d a.0 a.1) (enumerate_from (n + 1) ys))
     ∙ ap₂ (λ u v. u || v) (first_navs l d n p e a)
-        (navs_none l d (n + 1) ys (Nav n e p) (λ b f le. ap (λ z. z && same_end e f && nat_eq p d.object) (differ n b (omega arith))))
+    (navs_none l d (n + 1) ys (Nav n e p) (λ b f le. ap (λ z. z && same_end e f && nat_eq p d.object) (differ n b (omega arith))))
     ∙ or_false _
   where
     or_false : (a : Bool) → (a || false) ≡ a
@@ -218,12 +230,12 @@ navs_hit l d n zero p e (a ∷ ys) =
 navs_hit l d n (suc k) p e (a ∷ ys) =
     let e1 : n + suc k ≡ (n + 1) + k = omega arith in
     let apart : (f : End) → same (Nav (n + suc k) e p) (Nav n f d.object) ≡ false
-      = λ f. ap (λ z. z && same_end e f && nat_eq p d.object) (by_test (nat_eq (n + suc k) n) (λ y. let q = eqb-true (n + suc k) n y in absurd (omega arith)) (λ m. m)) in
+    = λ f. ap (λ z. z && same_end e f && nat_eq p d.object) (by_test (nat_eq (n + suc k) n) (λ y. let q = eqb-true (n + suc k) n y in absurd (omega arith)) (λ m. m)) in
     list_any-append (same (Nav (n + suc k) e p)) (navs l d n a) (flat_map (λ a. navs l d a.0 a.1) (enumerate_from (n + 1) ys))
     ∙ ap₂ (λ u v. u || v)
-        (list_any-append (same (Nav (n + suc k) e p)) (navs_to l d n a Second First) (navs_to l d n a First Second)
-          ∙ ap₂ (λ u v. u || v) (one_none l d n a Second First (Nav (n + suc k) e p) (apart First)) (one_none l d n a First Second (Nav (n + suc k) e p) (apart Second)))
-        (ap (λ (m : ℕ). list_any (same (Nav m e p)) (flat_map (λ a. navs l d a.0 a.1) (enumerate_from (n + 1) ys))) e1 ∙ navs_hit l d (n + 1) k p e ys)
+    (list_any-append (same (Nav (n + suc k) e p)) (navs_to l d n a Second First) (navs_to l d n a First Second)
+    ∙ ap₂ (λ u v. u || v) (one_none l d n a Second First (Nav (n + suc k) e p) (apart First)) (one_none l d n a First Second (Nav (n + suc k) e p) (apart Second)))
+    (ap (λ (m : ℕ). list_any (same (Nav m e p)) (flat_map (λ a. navs l d a.0 a.1) (enumerate_from (n + 1) ys))) e1 ∙ navs_hit l d (n + 1) k p e ys)
 
 -- the cells of an object
 abbrev pub hits : Layout → ObjectChange → Cell → Bool
@@ -238,9 +250,9 @@ three : (l : Layout) (d : ObjectChange) (x : Cell) (a b c e : Bool) → same x (
 three l d x a b c e p q r t =
     list_any-append (same x) (Kind d.object ∷ map (Slot d.object) (attrs l d.class) ++ flat_map (λ a. navs l d a.0 a.1) (enumerate_from 0 l.assocs)) (map Extent (ancestors l d.class))
     ∙ ap₂ (λ y z. y || z)
-        (list_any-append (same x) (Kind d.object ∷ map (Slot d.object) (attrs l d.class)) (flat_map (λ a. navs l d a.0 a.1) (enumerate_from 0 l.assocs))
-          ∙ ap₂ (λ y z. y || z) (ap₂ (λ y z. y || z) p q) r)
-        t
+    (list_any-append (same x) (Kind d.object ∷ map (Slot d.object) (attrs l d.class)) (flat_map (λ a. navs l d a.0 a.1) (enumerate_from 0 l.assocs))
+    ∙ ap₂ (λ y z. y || z) (ap₂ (λ y z. y || z) p q) r)
+    t
 
 only_first : (a : Bool) → (a || false || false || false) ≡ a
 only_first true = refl
@@ -258,18 +270,18 @@ pub cells_hit : (l : Layout) (d : ObjectChange) (x : Cell) → has_cell (cells_o
 cells_hit l d (Kind p) =
     has_same (cells_of l d) (Kind p)
     ∙ three l d (Kind p) (nat_eq p d.object) false false false refl (none_of (Kind p) (Slot d.object) (attrs l d.class) (λ a. refl))
-        (navs_none l d 0 l.assocs (Kind p) (λ a e h. refl)) (none_of (Kind p) Extent (ancestors l d.class) (λ a. refl))
+    (navs_none l d 0 l.assocs (Kind p) (λ a e h. refl)) (none_of (Kind p) Extent (ancestors l d.class) (λ a. refl))
     ∙ only_first (nat_eq p d.object)
 cells_hit l d (Slot p b) =
     has_same (cells_of l d) (Slot p b)
     ∙ three l d (Slot p b) false (nat_eq p d.object && list_any (nat_eq b) (attrs l d.class)) false false refl (slots_hit p b d.object (attrs l d.class))
-        (navs_none l d 0 l.assocs (Slot p b) (λ a e h. refl)) (none_of (Slot p b) Extent (ancestors l d.class) (λ a. refl))
+    (navs_none l d 0 l.assocs (Slot p b) (λ a e h. refl)) (none_of (Slot p b) Extent (ancestors l d.class) (λ a. refl))
     ∙ only_second (nat_eq p d.object && list_any (nat_eq b) (attrs l d.class))
 cells_hit l d (Nav a e p) =
     has_same (cells_of l d) (Nav a e p)
     ∙ three l d (Nav a e p) false false (nat_eq p d.object && may_stand l a (opposite e) d.class) false refl (none_of (Nav a e p) (Slot d.object) (attrs l d.class) (λ a. refl))
-        (ap (λ (m : ℕ). list_any (same (Nav m e p)) (flat_map (λ a. navs l d a.0 a.1) (enumerate_from 0 l.assocs))) (zeroed a) ∙ navs_hit l d 0 a p e l.assocs)
-        (none_of (Nav a e p) Extent (ancestors l d.class) (λ a. refl))
+    (ap (λ (m : ℕ). list_any (same (Nav m e p)) (flat_map (λ a. navs l d a.0 a.1) (enumerate_from 0 l.assocs))) (zeroed a) ∙ navs_hit l d 0 a p e l.assocs)
+    (none_of (Nav a e p) Extent (ancestors l d.class) (λ a. refl))
     ∙ only_third (nat_eq p d.object && may_stand l a (opposite e) d.class)
   where
     zeroed : (a : ℕ) → a ≡ 0 + a
@@ -277,4 +289,4 @@ cells_hit l d (Nav a e p) =
 cells_hit l d (Extent c) =
     has_same (cells_of l d) (Extent c)
     ∙ three l d (Extent c) false false false (is_a l d.class c) refl (none_of (Extent c) (Slot d.object) (attrs l d.class) (λ a. refl))
-        (navs_none l d 0 l.assocs (Extent c) (λ a e h. refl)) (extents_hit c (ancestors l d.class))
+    (navs_none l d 0 l.assocs (Extent c) (λ a e h. refl)) (extents_hit c (ancestors l d.class))

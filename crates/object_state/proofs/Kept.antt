@@ -91,22 +91,25 @@ created l s d v f =
       counter = g.after;
       instances = λ o x e. ⊎_elim (λ new. subst (IsInstance l) new.1 here) (λ old. v.objects.instances o x old) (found o x e);
       names = λ o p x y e e' same. ⊎_elim
-        (λ new. ⊎_elim (λ new'. new.0 ∙ sym new'.0) (λ old'. absurd (name_free s d.name n.0 p y old' (sym same ∙ sym (ap (λ (z : Object). z.name) new.1)))) (found p y e'))
-        (λ old. ⊎_elim (λ new'. absurd (name_free s d.name n.0 o x old (same ∙ sym (ap (λ (z : Object). z.name) new'.1)))) (λ old'. v.objects.names o p x y old old' same) (found p y e'))
-        (found o x e);
-      below = λ o x e. ⊎_elim (λ new. subst (λ (z : ℕ). z < d.after) (sym new.0) (g.number below)) (λ old. g.others below o x old) (found o x e) } in
+          (λ new. ⊎_elim (λ new'. new.0 ∙ sym new'.0) (λ old'. absurd (name_free s d.name n.0 p y old' (sym same ∙ sym (ap (λ (z : Object). z.name) new.1)))) (found p y e'))
+          (λ old. ⊎_elim (λ new'. absurd (name_free s d.name n.0 o x old (same ∙ sym (ap (λ (z : Object). z.name) new'.1)))) (λ old'. v.objects.names o p x y old old' same) (found p y e'))
+          (found o x e);
+      below = λ o x e. ⊎_elim (λ new. subst (λ (z : ℕ). z < d.after) (sym new.0) (g.number below)) (λ old. g.others below o x old) (found o x e);
+    } in
     record {
       objects = objects;
       links = v.links;
       variables = v.variables;
       apart = λ o x e. ⊎_elim (λ new. ap (λ (z : Object). variable s z.name) (sym new.1) ∙ not_some (variable s d.name) n.1) (λ old. v.apart o x old) (found o x e);
       joins = λ key pair e. let j = v.joins key pair e in
-        let stay : (o : ℕ) (x : Object) → object s o ≡ Some x → (y : Object) × (object (apply l s (Create d)) o ≡ Some y) × (y.class ≡ x.class)
+          let stay : (o : ℕ) (x : Object) → object s o ≡ Some x → (y : Object) × (object (apply l s (Create d)) o ≡ Some y) × (y.class ≡ x.class)
           = λ o x e. (x, kept_insert nat_cmp_total exact_unsigned s.objects d.object (object_of d) o x free e, refl) in
-        record {
-          first = stands_on l s (apply l s (Create d)) key.0 First pair.0 (stay pair.0) j.first;
-          second = stands_on l s (apply l s (Create d)) key.0 Second pair.1 (stay pair.1) j.second };
-      light = stays_light l s (Create d) v f }
+          record {
+            first = stands_on l s (apply l s (Create d)) key.0 First pair.0 (stay pair.0) j.first;
+            second = stands_on l s (apply l s (Create d)) key.0 Second pair.1 (stay pair.1) j.second;
+          };
+      light = stays_light l s (Create d) v f;
+    }
 
 -- an object goes
 pub removed : (l : Layout) (s : State) (d : ObjectChange) → IsValid l s → Fits l s (Remove d) → IsValid l (apply l s (Remove d))
@@ -120,20 +123,23 @@ removed l s d v f =
       counter = g.after;
       instances = λ o x e. v.objects.instances o x (found o x e).0;
       names = λ o p x y e e' same. v.objects.names o p x y (found o x e).0 (found p y e').0 same;
-      below = λ o x e. g.others o x (found o x e).0 (found o x e).1 } in
+      below = λ o x e. g.others o x (found o x e).0 (found o x e).1;
+    } in
     record {
       objects = objects;
       links = v.links;
       variables = v.variables;
       apart = λ o x e. v.apart o x (found o x e).0;
       joins = λ key pair e. let j = v.joins key pair e in
-        let away = g.unlinked key pair e in
-        let stay : (o : ℕ) → o ≢ d.object → (x : Object) → object s o ≡ Some x → (y : Object) × (object (apply l s (Remove d)) o ≡ Some y) × (y.class ≡ x.class)
+          let away = g.unlinked key pair e in
+          let stay : (o : ℕ) → o ≢ d.object → (x : Object) → object s o ≡ Some x → (y : Object) × (object (apply l s (Remove d)) o ≡ Some y) × (y.class ≡ x.class)
           = λ o ne x e. (x, kept_remove nat_cmp_total exact_unsigned s.objects d.object o x v.objects.ordered ne e, refl) in
-        record {
-          first = stands_on l s (apply l s (Remove d)) key.0 First pair.0 (stay pair.0 away.0) j.first;
-          second = stands_on l s (apply l s (Remove d)) key.0 Second pair.1 (stay pair.1 away.1) j.second };
-      light = stays_light l s (Remove d) v f }
+          record {
+            first = stands_on l s (apply l s (Remove d)) key.0 First pair.0 (stay pair.0 away.0) j.first;
+            second = stands_on l s (apply l s (Remove d)) key.0 Second pair.1 (stay pair.1 away.1) j.second;
+          };
+      light = stays_light l s (Remove d) v f;
+    }
 
 -- a slot gets another value
 whole_set_at : (l : Layout) (p : Option ℕ) (x : Object) (v : Value) → IsInstance l x → IsWellMade v → IsInstance l (set_at p x v)
@@ -152,18 +158,22 @@ set l s o a old new v f =
     let name : x'.name ≡ (k.0).name = name_set_at at k.0 new in
     let class : x'.class ≡ (k.0).class = class_set_at at k.0 new in
     let named : (p : ℕ) (y : Object) → object t p ≡ Some y → (z : Object) × (object s p ≡ Some z) × (y.name ≡ z.name)
-      = λ p y e. ⊎_elim (λ new. (k.0, ap (λ (q : ℕ). object s q) new.0 ∙ k.1, ap (λ (z : Object). z.name) (sym new.1) ∙ name)) (λ old. (y, old, refl)) (found p y e) in
+    = λ p y e. ⊎_elim (λ new. (k.0, ap (λ (q : ℕ). object s q) new.0 ∙ k.1, ap (λ (z : Object). z.name) (sym new.1) ∙ name)) (λ old. (y, old, refl)) (found p y e) in
     let objects : ObjectsAreValid l t.objects s.next_object = record {
       ordered = subst (IsStrictlySortedBy nat_cmp) (sym (keys-set_value (is_at (nat_cmp o)) s.objects x')) v.objects.ordered;
       fit = subst (λ (n : ℕ). n ≤ max_objects) (sym (length-set_value (is_at (nat_cmp o)) s.objects x')) v.objects.fit;
       counter = v.objects.counter;
       instances = λ p y e. ⊎_elim (λ new. subst (IsInstance l) new.1 (whole_set_at l at k.0 _ (v.objects.instances o k.0 k.1) g.values.1)) (λ old. v.objects.instances p y old) (found p y e);
       names = λ p q y z e e' same. let r = named p y e in let r' = named q z e' in v.objects.names p q r.0 r'.0 r.1 r'.1 (sym r.2 ∙ same ∙ r'.2);
-      below = λ p y e. let r = named p y e in v.objects.below p r.0 r.1 } in
+      below = λ p y e. let r = named p y e in v.objects.below p r.0 r.1;
+    } in
     let stay : (p : ℕ) (x : Object) → object s p ≡ Some x → (y : Object) × (object t p ≡ Some y) × (y.class ≡ x.class)
-      = λ p x e. by_number p o (λ eq. (x', ap (λ (q : ℕ). object t q) eq ∙ lookup_set_here (is_at (nat_cmp o)) s.objects k.0 x' k.1,
-            class ∙ ap (λ (z : Object). z.class) (inside_some k.0 x (sym k.1 ∙ ap (λ (q : ℕ). object s q) (sym eq) ∙ e))))
-          (λ ne. (x, kept_set nat_cmp_total exact_unsigned s.objects o x' k.0 p k.1 ne ∙ e, refl)) in
+    = λ p x e. by_number p o (λ eq. (
+      x',
+      ap (λ (q : ℕ). object t q) eq ∙ lookup_set_here (is_at (nat_cmp o)) s.objects k.0 x' k.1,
+      class ∙ ap (λ (z : Object). z.class) (inside_some k.0 x (sym k.1 ∙ ap (λ (q : ℕ). object s q) (sym eq) ∙ e)),
+    ))
+    (λ ne. (x, kept_set nat_cmp_total exact_unsigned s.objects o x' k.0 p k.1 ne ∙ e, refl)) in
     let valid : IsValid l t = record {
       objects = objects;
       links = v.links;
@@ -171,8 +181,10 @@ set l s o a old new v f =
       apart = λ p y e. let r = named p y e in ap (λ (n : List ℕ). variable s n) r.2 ∙ v.apart p r.0 r.1;
       joins = λ key pair e. let j = v.joins key pair e in record {
         first = stands_on l s t key.0 First pair.0 (stay pair.0) j.first;
-        second = stands_on l s t key.0 Second pair.1 (stay pair.1) j.second };
-      light = subst (λ (u : State). weight u ≤ max_weight) same (stays_light l s (SetSlot o a old new) v f) } in
+        second = stands_on l s t key.0 Second pair.1 (stay pair.1) j.second;
+      };
+      light = subst (λ (u : State). weight u ≤ max_weight) same (stays_light l s (SetSlot o a old new) v f);
+    } in
     subst (IsValid l) (sym same) valid
 
 -- a link comes
@@ -189,30 +201,33 @@ linked l s d v f =
       fit = room_for max_links (length s.links) _ k.link_room (length_insert link_cmp s.links (d.assoc, d.stamp) (d.first, d.second) (link_free l s d f));
       counter = g.ends.after;
       once = λ m n p e e' same. ⊎_elim
-        (λ new. ⊎_elim (λ new'. ap (λ (z : ℕ × ℕ). z.1) (new.0 ∙ sym new'.0))
+          (λ new. ⊎_elim (λ new'. ap (λ (z : ℕ × ℕ). z.1) (new.0 ∙ sym new'.0))
           (λ old'. absurd (link_missing s d.assoc d.first d.second none n (old' ∙ ap (λ (z : ℕ × ℕ). Some z) (sym new.1)) (sym same ∙ ap (λ (z : ℕ × ℕ). z.0) new.0))) (found n p e'))
-        (λ old. ⊎_elim (λ new'. absurd (link_missing s d.assoc d.first d.second none m (old ∙ ap (λ (z : ℕ × ℕ). Some z) (sym new'.1)) (same ∙ ap (λ (z : ℕ × ℕ). z.0) new'.0)))
+          (λ old. ⊎_elim (λ new'. absurd (link_missing s d.assoc d.first d.second none m (old ∙ ap (λ (z : ℕ × ℕ). Some z) (sym new'.1)) (same ∙ ap (λ (z : ℕ × ℕ). z.0) new'.0)))
           (λ old'. v.links.once m n p old old' same) (found n p e'))
-        (found m p e);
+          (found m p e);
       stamps = λ m n p q e e' same. ⊎_elim
-        (λ new. ⊎_elim (λ new'. ap (λ (z : ℕ × ℕ). z.0) (new.0 ∙ sym new'.0))
+          (λ new. ⊎_elim (λ new'. ap (λ (z : ℕ × ℕ). z.0) (new.0 ∙ sym new'.0))
           (λ old'. absurd (g.free below n q old' (sym same ∙ ap (λ (z : ℕ × ℕ). z.1) new.0))) (found n q e'))
-        (λ old. ⊎_elim (λ new'. absurd (g.free below m p old (same ∙ ap (λ (z : ℕ × ℕ). z.1) new'.0))) (λ old'. v.links.stamps m n p q old old' same) (found n q e'))
-        (found m p e);
-      below = λ m p e. ⊎_elim (λ new. subst (λ (z : ℕ × ℕ). z.1 < d.after) (sym new.0) (g.stamp below)) (λ old. g.others below m p old) (found m p e) } in
+          (λ old. ⊎_elim (λ new'. absurd (g.free below m p old (same ∙ ap (λ (z : ℕ × ℕ). z.1) new'.0))) (λ old'. v.links.stamps m n p q old old' same) (found n q e'))
+          (found m p e);
+      below = λ m p e. ⊎_elim (λ new. subst (λ (z : ℕ × ℕ). z.1 < d.after) (sym new.0) (g.stamp below)) (λ old. g.others below m p old) (found m p e);
+    } in
     record {
       objects = v.objects;
       links = links;
       variables = v.variables;
       apart = v.apart;
       joins = λ m p e. ⊎_elim
-        (λ new. subst (λ (z : ℕ). Joins l (apply l s (Link d)) z p) (sym (ap (λ (z : ℕ × ℕ). z.0) new.0)) (subst (Joins l (apply l s (Link d)) d.assoc) new.1
+          (λ new. subst (λ (z : ℕ). Joins l (apply l s (Link d)) z p) (sym (ap (λ (z : ℕ × ℕ). z.0) new.0)) (subst (Joins l (apply l s (Link d)) d.assoc) new.1
           (record {
             first = ap (λ (u : Option Object). option_map_or (λ (x : Object). may_stand l d.assoc First x.class) u false) ends.0.1 ∙ g.ends.first ends.0.0 ends.0.1;
-            second = ap (λ (u : Option Object). option_map_or (λ (x : Object). may_stand l d.assoc Second x.class) u false) ends.1.1 ∙ g.ends.second ends.1.0 ends.1.1 })))
-        (λ old. let j = v.joins m p old in record { first = j.first; second = j.second })
-        (found m p e);
-      light = stays_light l s (Link d) v f }
+            second = ap (λ (u : Option Object). option_map_or (λ (x : Object). may_stand l d.assoc Second x.class) u false) ends.1.1 ∙ g.ends.second ends.1.0 ends.1.1;
+          })))
+          (λ old. let j = v.joins m p old in record { first = j.first; second = j.second })
+          (found m p e);
+      light = stays_light l s (Link d) v f;
+    }
 
 -- a link goes
 pub unlinked : (l : Layout) (s : State) (d : LinkChange) → IsValid l s → Fits l s (Unlink d) → IsValid l (apply l s (Unlink d))
@@ -228,14 +243,16 @@ unlinked l s d v f =
       once = λ m n p e e' same. v.links.once m n p (found m p e).0 (found n p e').0 same;
       stamps = λ m n p q e e' same. v.links.stamps m n p q (found m p e).0 (found n q e').0 same;
       below = λ m p e. let r = found m p e in
-        g.others m p r.0 (λ same. r.1 (λ i. (v.links.stamps m (d.assoc, d.stamp) p (d.first, d.second) r.0 there same i, same i))) } in
+          g.others m p r.0 (λ same. r.1 (λ i. (v.links.stamps m (d.assoc, d.stamp) p (d.first, d.second) r.0 there same i, same i)));
+    } in
     record {
       objects = v.objects;
       links = links;
       variables = v.variables;
       apart = v.apart;
       joins = λ m p e. let j = v.joins m p (found m p e).0 in record { first = j.first; second = j.second };
-      light = stays_light l s (Unlink d) v f }
+      light = stays_light l s (Unlink d) v f;
+    }
 
 -- a variable gets a value
 pub bound : (l : Layout) (s : State) (name : List ℕ) (old : Option Variable) (new : Variable) → IsValid l s → Fits l s (Bind name old new) → IsValid l (apply l s (Bind name old new))
@@ -248,11 +265,13 @@ bound l s name old new v f =
       links = v.links;
       variables = record {
         ordered = sorted_insert nat_list_cmp_total s.variables name new v.variables.ordered;
-        values = λ n w e. ⊎_elim (λ here. subst (λ (z : Variable). IsWellMade z.value) here.1 g.value) (λ old. v.variables.values n w old) (found n w e) };
+        values = λ n w e. ⊎_elim (λ here. subst (λ (z : Variable). IsWellMade z.value) here.1 g.value) (λ old. v.variables.values n w old) (found n w e);
+      };
       apart = λ o x e. absent (variable (apply l s (Bind name old new)) x.name) (λ w h.
-        ⊎_elim (λ here. name_free s name k.name o x e here.0) (λ old. some≢none w (sym old ∙ v.apart o x e)) (found x.name w h));
+          ⊎_elim (λ here. name_free s name k.name o x e here.0) (λ old. some≢none w (sym old ∙ v.apart o x e)) (found x.name w h));
       joins = λ m p e. let j = v.joins m p e in record { first = j.first; second = j.second };
-      light = stays_light l s (Bind name old new) v f }
+      light = stays_light l s (Bind name old new) v f;
+    }
 
 -- a variable goes
 pub unbound : (l : Layout) (s : State) (name : List ℕ) (old : Variable) → IsValid l s → Fits l s (Unbind name old) → IsValid l (apply l s (Unbind name old))
@@ -263,10 +282,12 @@ unbound l s name old v f =
       links = v.links;
       variables = record {
         ordered = sorted_remove nat_list_cmp_total (is_at (text_cmp name)) s.variables v.variables.ordered;
-        values = λ n w e. v.variables.values n w (found n w e).0 };
+        values = λ n w e. v.variables.values n w (found n w e).0;
+      };
       apart = λ o x e. absent (variable (apply l s (Unbind name old)) x.name) (λ w h. some≢none w (sym (found x.name w h).0 ∙ v.apart o x e));
       joins = λ m p e. let j = v.joins m p e in record { first = j.first; second = j.second };
-      light = stays_light l s (Unbind name old) v f }
+      light = stays_light l s (Unbind name old) v f;
+    }
 
 pub stays_valid : (l : Layout) (s : State) (c : Change) → IsValid l s → Fits l s c → IsValid l (apply l s c)
 stays_valid l s (Create d) v f = created l s d v f

@@ -80,6 +80,7 @@ find_none p (x ∷ xs) n test v e =
     refused : {A : Type 0} (b : Bool) (a : A) (o : Option A) → cond b (Some a) o ≡ None → (b ≡ false) × (o ≡ None)
     refused true a o h = absurd (some≢none a h)
     refused false a o h = (refl, h)
+
     inside_some : {A : Type 0} (a b : A) → Some a ≡ Some b → a ≡ b
     inside_some a b e = cc
 
@@ -99,11 +100,11 @@ module _ {K X : Type 0} {R : K → K → Ordering} (o : IsTotalOrder R) where
   find_some p (x ∷ xs) e h s =
       by_test (p x)
       (λ y. let here : x ≡ e = inside_some x e (sym (ap (λ b. cond b (Some x) (find p xs)) y) ∙ h) in
-          (subst (λ (z : K × X). lookup (is_at (R z.0)) (x ∷ xs) ≡ Some z.1) here (rw (tied_itself o x.0) refl), ap p (sym here) ∙ y))
+      (subst (λ (z : K × X). lookup (is_at (R z.0)) (x ∷ xs) ≡ Some z.1) here (rw (tied_itself o x.0) refl), ap p (sym here) ∙ y))
       (λ n. let r = find_some p xs e (sym (ap (λ b. cond b (Some x) (find p xs)) n) ∙ h) s.1 in
-          let less : R x.0 e.0 ≡ Less = below_found xs x.0 e.0 e.1 s.0 r.0 in
-          let more : R e.0 x.0 ≡ Greater = o.antisymm e.0 x.0 ∙ ap ordering_reverse less in
-          (rw more (r.0), r.1))
+      let less : R x.0 e.0 ≡ Less = below_found xs x.0 e.0 e.1 s.0 r.0 in
+      let more : R e.0 x.0 ≡ Greater = o.antisymm e.0 x.0 ∙ ap ordering_reverse less in
+      (rw more (r.0), r.1))
     where
       inside_some : (a b : K × X) → Some a ≡ Some b → a ≡ b
       inside_some a b e = cc
@@ -155,8 +156,10 @@ module _ {K X : Type 0} {R : K → K → Ordering} (o : IsTotalOrder R) where
       twice true b h = refl
       twice false true h = absurd (true≢false (sym h))
       twice false false h = refl
+
       apart : is_at (R q) e.0 ≡ true → is_at (R q) k ≡ true → R k e.0 ≡ Greater → ⊥
       apart a b g = true≢false (sym (ap is_eq (sym (o.congr q k e.0 (equal _ b)) ∙ equal _ a)) ∙ ap is_eq g)
+
       crossed : (a b : Bool) → (a ≡ true → b ≡ true → ⊥) → cond a (Some e.1) (cond b (Some v) (lookup (is_at (R q)) es)) ≡ cond b (Some v) (cond a (Some e.1) (lookup (is_at (R q)) es))
       crossed true true h = absurd (h refl refl)
       crossed true false h = refl
@@ -191,9 +194,9 @@ module _ {K X : Type 0} {R : K → K → Ordering} (o : IsTotalOrder R) where
         by_order (R k x.0)
         (λ l. absurd (some≢none v (sym e ∙ ap (λ r. cond (is_eq r) (Some x.1) (lookup (is_at (R k)) xs)) l ∙ lookup_first xs k (all_above o k x.0 (keys_of xs) l s.0))))
         (λ t.
-            let value : x.1 ≡ v = inside x.1 v (sym (ap (λ r. cond (is_eq r) (Some x.1) (lookup (is_at (R k)) xs)) t) ∙ e) in
-            let key : k ≡ x.0 = exact k x.0 t in
-            rw t (insert_first xs k v (subst (λ (z : K). AllByRecursion (λ y. R z y ≡ Less) (keys_of xs)) (sym key) s.0) ∙ (λ i. (key i, sym value i) ∷ xs)))
+        let value : x.1 ≡ v = inside x.1 v (sym (ap (λ r. cond (is_eq r) (Some x.1) (lookup (is_at (R k)) xs)) t) ∙ e) in
+        let key : k ≡ x.0 = exact k x.0 t in
+        rw t (insert_first xs k v (subst (λ (z : K). AllByRecursion (λ y. R z y ≡ Less) (keys_of xs)) (sym key) s.0) ∙ (λ i. (key i, sym value i) ∷ xs)))
         (λ g. rw g (rw g (ap (λ l. x ∷ l) (insert_removed xs k v s.1 (sym (ap (λ r. cond (is_eq r) (Some x.1) (lookup (is_at (R k)) xs)) g) ∙ e)))))
 
     -- another value comes at a key, and the old one again
@@ -204,8 +207,8 @@ module _ {K X : Type 0} {R : K → K → Ordering} (o : IsTotalOrder R) where
         by_order (R k x.0)
         (λ l. absurd (some≢none v (sym e ∙ ap (λ r. cond (is_eq r) (Some x.1) (lookup (is_at (R k)) xs)) l ∙ lookup_first xs k (all_above o k x.0 (keys_of xs) l s.0))))
         (λ t.
-            let value : x.1 ≡ v = inside x.1 v (sym (ap (λ r. cond (is_eq r) (Some x.1) (lookup (is_at (R k)) xs)) t) ∙ e) in
-            rw t (rw t (λ i. (x.0, sym value i) ∷ xs)))
+        let value : x.1 ≡ v = inside x.1 v (sym (ap (λ r. cond (is_eq r) (Some x.1) (lookup (is_at (R k)) xs)) t) ∙ e) in
+        rw t (rw t (λ i. (x.0, sym value i) ∷ xs)))
         (λ g. rw g (rw g (ap (λ l. x ∷ l) (insert_back xs k v w s.1 (sym (ap (λ r. cond (is_eq r) (Some x.1) (lookup (is_at (R k)) xs)) g) ∙ e)))))
 
 -- a selection, with one more entry: it has one more where that entry passes, and stays as it is where not
@@ -276,8 +279,10 @@ module _ {K X : Type 0} {R : K → K → Ordering} (o : IsTotalOrder R) (exact :
   found_remove es k q x s e =
       by_test (is_at (R k) q)
       (λ y. absurd (some≢none x (sym e ∙ lookup_remove es k q s ∙ ap (λ b. cond b None (lookup (is_at (R q)) es)) y)))
-      (λ n. (sym (ap (λ b. cond b None (lookup (is_at (R q)) es)) n) ∙ sym (lookup_remove es k q s) ∙ e,
-          λ same. true≢false (sym (ap is_eq (tied_itself o k)) ∙ ap (λ (z : K). is_at (R k) z) (sym same) ∙ n)))
+      (λ n. (
+        sym (ap (λ b. cond b None (lookup (is_at (R q)) es)) n) ∙ sym (lookup_remove es k q s) ∙ e,
+        λ same. true≢false (sym (ap is_eq (tied_itself o k)) ∙ ap (λ (z : K). is_at (R k) z) (sym same) ∙ n),
+      ))
 
   pub kept_remove : (es : List (K × X)) (k : K) (q : K) (x : X) → IsStrictlySortedBy R (keys_of es) → q ≢ k → lookup (is_at (R q)) es ≡ Some x
       → lookup (is_at (R q)) (remove_entry (is_at (R k)) es) ≡ Some x

@@ -9,3 +9,5 @@ pub mod Placed
 pub mod Bounds
 pub mod Empty
 pub mod Carried
+pub mod Seen
+pub mod Inside

@@ -23,12 +23,12 @@ module _ {A : Type 0} (p : A → Bool) where
   later : (x : A) (xs : List A) → p x ≡ false → position p (x ∷ xs) ≡ option_map suc (position p xs)
   later x xs h =
       rw h (by_test (nat_lt (position_or_len p xs) (length xs))
-        (λ y. let up = ltb-true _ _ y in
-          rw y (ap (λ b. cond b (Some (1 + position_or_len p xs)) None) (lt-ltb (1 + position_or_len p xs) (suc (length xs)) (omega arith)) ∙ ap (λ (n : ℕ). Some n) (one (position_or_len p xs))))
-        (λ n. let down = ltb-false _ _ n in
-          rw n (by_test (nat_lt (1 + position_or_len p xs) (suc (length xs)))
-            (λ y. let up = ltb-true _ _ y in absurd (omega arith))
-            (λ m. ap (λ b. cond b (Some (1 + position_or_len p xs)) None) m))))
+      (λ y. let up = ltb-true _ _ y in
+      rw y (ap (λ b. cond b (Some (1 + position_or_len p xs)) None) (lt-ltb (1 + position_or_len p xs) (suc (length xs)) (omega arith)) ∙ ap (λ (n : ℕ). Some n) (one (position_or_len p xs))))
+      (λ n. let down = ltb-false _ _ n in
+      rw n (by_test (nat_lt (1 + position_or_len p xs) (suc (length xs)))
+      (λ y. let up = ltb-true _ _ y in absurd (omega arith))
+      (λ m. ap (λ b. cond b (Some (1 + position_or_len p xs)) None) m))))
     where
       one : (n : ℕ) → 1 + n ≡ suc n
       one n = omega arith
@@ -52,7 +52,7 @@ module _ {K X : Type 0} (test : K → Bool) where
       by_test (test e.0)
       (λ y. let at : i ≡ 0 = inside_some i 0 (sym h ∙ here passes e es y) in rw (at, y) refl)
       (λ n. let r = placed_later passes (position passes es) i (sym (later passes e es n) ∙ h) in
-        step (removed_at es) r.0 n r.1 r.2)
+      step (removed_at es) r.0 n r.1 r.2)
     where
       step : ((j : ℕ) → position passes es ≡ Some j → remove es j ≡ remove_entry test es) → (j : ℕ) → test e.0 ≡ false → position passes es ≡ Some j → i ≡ suc j
           → remove (e ∷ es) i ≡ remove_entry test (e ∷ es)
@@ -78,7 +78,7 @@ module _ {K X : Type 0} (test : K → Bool) where
       by_test (test e.0)
       (λ y. let at : i ≡ 0 = inside_some i 0 (sym h ∙ here passes e es y) in (rw (at, y) refl, omega arith))
       (λ n. let r = placed_later passes (position passes es) i (sym (later passes e es n) ∙ h) in
-        step (λ j. lookup_at es j d) r.0 n r.1 r.2)
+      step (λ j. lookup_at es j d) r.0 n r.1 r.2)
     where
       step : ((j : ℕ) → position passes es ≡ Some j → (lookup test es ≡ Some (get_or es j d).1) × (j < length es)) → (j : ℕ) → test e.0 ≡ false → position passes es ≡ Some j → i ≡ suc j
           → (lookup test (e ∷ es) ≡ Some (get_or (e ∷ es) i d).1) × (i < length (e ∷ es))
@@ -90,7 +90,7 @@ module _ {K X : Type 0} (test : K → Bool) where
       by_test (test e.0)
       (λ y. let at : i ≡ 0 = inside_some i 0 (sym h ∙ here passes e es y) in rw (at, y) refl)
       (λ n. let r = placed_later passes (position passes es) i (sym (later passes e es n) ∙ h) in
-        step (λ j. set_at_place es j d w) r.0 n r.1 r.2)
+      step (λ j. set_at_place es j d w) r.0 n r.1 r.2)
     where
       step : ((j : ℕ) → position passes es ≡ Some j → slice_set es j ((get_or es j d).0, w) ≡ set_value test es w) → (j : ℕ) → test e.0 ≡ false → position passes es ≡ Some j → i ≡ suc j
           → slice_set (e ∷ es) i ((get_or (e ∷ es) i d).0, w) ≡ set_value test (e ∷ es) w
@@ -126,13 +126,13 @@ module _ {K X : Type 0} (R : K → K → Ordering) (k : K) (v : X) where
   equal_gets (y ∷ ys) i x e g t =
       by_order (R k y.0)
       (λ l. let at : i ≡ 0 = e ∙ goes_here y ys (ap is_le l) in
-        let same : y ≡ x = inside_some y x (subst (λ (n : ℕ). slice_get (y ∷ ys) n ≡ Some x) at g) in
-        absurd (true≢false (sym t ∙ ap (λ (z : K × X). is_at (R k) z.0) (sym same) ∙ ap is_eq l)))
+      let same : y ≡ x = inside_some y x (subst (λ (n : ℕ). slice_get (y ∷ ys) n ≡ Some x) at g) in
+      absurd (true≢false (sym t ∙ ap (λ (z : K × X). is_at (R k) z.0) (sym same) ∙ ap is_eq l)))
       (λ q. let at : i ≡ 0 = e ∙ goes_here y ys (ap is_le q) in
-        let same : y ≡ x = inside_some y x (subst (λ (n : ℕ). slice_get (y ∷ ys) n ≡ Some x) at g) in
-        rw (at, q) (ap (λ (z : K × X). (z.0, v) ∷ ys) (sym same)))
+      let same : y ≡ x = inside_some y x (subst (λ (n : ℕ). slice_get (y ∷ ys) n ≡ Some x) at g) in
+      rw (at, q) (ap (λ (z : K × X). (z.0, v) ∷ ys) (sym same)))
       (λ h. let at : i ≡ suc (goes ys) = e ∙ goes_later y ys (ap is_le h) in
-        rw (at, h) (ap (λ l. y ∷ l) (equal_gets ys (goes ys) x refl (subst (λ (n : ℕ). slice_get (y ∷ ys) n ≡ Some x) at g) t)))
+      rw (at, h) (ap (λ l. y ∷ l) (equal_gets ys (goes ys) x refl (subst (λ (n : ℕ). slice_get (y ∷ ys) n ≡ Some x) at g) t)))
 
   pub other_goes : (es : List (K × X)) (i : ℕ) → i ≡ goes es → option_map_or (λ (e : K × X). is_at (R k) e.0) (slice_get es i) false ≡ false → insert es i (k, v) ≡ insert_entry R es k v
   other_goes [] i e f = rw (e) refl
@@ -140,10 +140,10 @@ module _ {K X : Type 0} (R : K → K → Ordering) (k : K) (v : X) where
       by_order (R k y.0)
       (λ l. let at : i ≡ 0 = e ∙ goes_here y ys (ap is_le l) in rw (at, l) refl)
       (λ q. let at : i ≡ 0 = e ∙ goes_here y ys (ap is_le q) in
-        absurd (true≢false (sym (ap is_eq q) ∙ subst (λ (n : ℕ). option_map_or (λ (e : K × X). is_at (R k) e.0) (slice_get (y ∷ ys) n) false ≡ false) at f)))
+      absurd (true≢false (sym (ap is_eq q) ∙ subst (λ (n : ℕ). option_map_or (λ (e : K × X). is_at (R k) e.0) (slice_get (y ∷ ys) n) false ≡ false) at f)))
       (λ h. let at : i ≡ suc (goes ys) = e ∙ goes_later y ys (ap is_le h) in
-        rw (at, h) (ap (λ l. y ∷ l) (other_goes ys (goes ys) refl
-          (subst (λ (n : ℕ). option_map_or (λ (e : K × X). is_at (R k) e.0) (slice_get (y ∷ ys) n) false ≡ false) at f))))
+      rw (at, h) (ap (λ l. y ∷ l) (other_goes ys (goes ys) refl
+      (subst (λ (n : ℕ). option_map_or (λ (e : K × X). is_at (R k) e.0) (slice_get (y ∷ ys) n) false ≡ false) at f))))
 
   found_there : (u : Option (K × X)) → option_map_or (λ (e : K × X). is_at (R k) e.0) u false ≡ true → (x : K × X) × (u ≡ Some x) × (is_at (R k) x.0 ≡ true)
   found_there None h = absurd (true≢false (sym h))

@@ -41,7 +41,7 @@ no_fault false f o h k = k
 clear : (l : Layout) (s : State) (c : Change) → Faultless l s c → fault l s c ≡ None
 clear l s c k =
     no_fault _ _ _ k.name (no_fault _ _ _ k.concrete (no_fault _ _ _ k.fresh (no_fault _ _ _ k.there (no_fault _ _ _ k.live
-      (no_fault _ _ _ k.object_room (no_fault _ _ _ k.link_room (no_fault _ _ _ k.number (no_fault _ _ _ k.light refl))))))))
+    (no_fault _ _ _ k.object_room (no_fault _ _ _ k.link_room (no_fault _ _ _ k.number (no_fault _ _ _ k.light refl))))))))
 
 -- tests that fail
 not_true : (b : Bool) → (b ≡ true → ⊥) → b ≡ false
@@ -93,11 +93,11 @@ within w w' m lo ga e h k = omega arith
 stays_small : (l : Layout) (s : State) (c : Change) → IsValid l s → Fits l s c → grows_too_large (apply l s c) (inverse c) ≡ false
 stays_small l s c v f =
     second_false (nat_lt (lost (inverse c)) (gained (inverse c))) (nat_lt (max_weight + lost (inverse c)) (weight (apply l s c) + gained (inverse c)))
-      (not_true _ (λ t.
-        let up = ltb-true (max_weight + lost (inverse c)) (weight (apply l s c) + gained (inverse c)) t in
-        let up' = subst (λ (z : ℕ). max_weight + z < weight (apply l s c) + gained (inverse c)) (loses c) up in
-        let up'' = subst (λ (z : ℕ). max_weight + gained c < weight (apply l s c) + z) (gains c) up' in
-        within (weight s) (weight (apply l s c)) max_weight (lost c) (gained c) (weighs l s c v f) v.light up''))
+    (not_true _ (λ t.
+    let up = ltb-true (max_weight + lost (inverse c)) (weight (apply l s c) + gained (inverse c)) t in
+    let up' = subst (λ (z : ℕ). max_weight + z < weight (apply l s c) + gained (inverse c)) (loses c) up in
+    let up'' = subst (λ (z : ℕ). max_weight + gained c < weight (apply l s c) + z) (gains c) up' in
+    within (weight s) (weight (apply l s c)) max_weight (lost c) (gained c) (weighs l s c v f) v.light up''))
 
 there : {X : Type 0} (u : Option X) (x : X) → u ≡ Some x → not (is_some u) ≡ false
 there u x e = ap (λ z. not (is_some z)) e
@@ -155,16 +155,24 @@ created l s d v f =
       before = refl;
       after = under d.before s.next_object last_number g.before v.objects.counter;
       same = λ x e. inside_some x (object_of d) (sym e ∙ put);
-      unlinked = λ key pair e. let j = v.joins key pair e in
-        (λ same. let x = stands_live l s key.0 First pair.0 j.first in some≢none x.0 (sym x.1 ∙ ap (λ (z : ℕ). object s z) same ∙ free),
-         λ same. let x = stands_live l s key.0 Second pair.1 j.second in some≢none x.0 (sym x.1 ∙ ap (λ (z : ℕ). object s z) same ∙ free));
+      unlinked = λ key pair e. let j = v.joins key pair e in (
+        λ same. let x = stands_live l s key.0 First pair.0 j.first in some≢none x.0 (sym x.1 ∙ ap (λ (z : ℕ). object s z) same ∙ free),
+        λ same. let x = stands_live l s key.0 Second pair.1 j.second in some≢none x.0 (sym x.1 ∙ ap (λ (z : ℕ). object s z) same ∙ free),
+      );
       others = λ o x e ne. ⊎_elim (λ new. absurd (ne new.0)) (λ old. below_counter o s.next_object d.before g.before (v.objects.below o x old))
-        (found_insert nat_cmp_total exact_unsigned s.objects d.object (object_of d) o x e) } in
+          (found_insert nat_cmp_total exact_unsigned s.objects d.object (object_of d) o x e);
+    } in
     let clean : Faultless l t (Remove (object_back d)) = record {
-      name = refl; concrete = refl; fresh = refl; there = refl;
+      name = refl;
+      concrete = refl;
+      fresh = refl;
+      there = refl;
       live = there (object t d.object) (object_of d) put;
-      object_room = refl; link_room = refl; number = refl;
-      light = stays_small l s (Create d) v f } in
+      object_room = refl;
+      link_room = refl;
+      number = refl;
+      light = stays_small l s (Create d) v f;
+    } in
     record { agrees = agrees; faultless = clear l t (Remove (object_back d)) clean }
 
 removed : (l : Layout) (s : State) (d : ObjectChange) → IsValid l s → Fits l s (Remove d) → Fits l (apply l s (Remove d)) (Create (object_back d))
@@ -185,17 +193,22 @@ removed l s d v f =
       after = under d.before s.next_object last_number g.before v.objects.counter;
       free = λ ne. gone_remove nat_cmp_total exact_unsigned s.objects d.object v.objects.ordered;
       number = λ ne. below_counter d.object s.next_object d.before g.before below;
-      others = λ ne o x e. below_counter o s.next_object d.before g.before (v.objects.below o x (found o x e).0) } in
+      others = λ ne o x e. below_counter o s.next_object d.before g.before (v.objects.below o x (found o x e).0);
+    } in
     let clean : Faultless l t (Create (object_back d)) = record {
       name = neither_true (is_some (object_named t d.name)) (is_some (variable t d.name))
-        (unnamed t d.name (sorted_remove nat_cmp_total (is_at (nat_cmp d.object)) s.objects v.objects.ordered)
+          (unnamed t d.name (sorted_remove nat_cmp_total (is_at (nat_cmp d.object)) s.objects v.objects.ordered)
           (λ o x e same. let r = found o x e in r.1 (v.objects.names o d.object x (object_of d) r.0 was same)))
-        (ap (λ (u : Option Variable). is_some u) (v.apart d.object (object_of d) was));
-      concrete = instance.concrete; fresh = refl; there = refl; live = refl;
+          (ap (λ (u : Option Variable). is_some u) (v.apart d.object (object_of d) was));
+      concrete = instance.concrete;
+      fresh = refl;
+      there = refl;
+      live = refl;
       object_room = has_room max_objects (length s.objects) _ (length_remove (is_at (nat_cmp d.object)) s.objects (object_of d) was) v.objects.fit;
       link_room = refl;
       number = not_last d.object s.next_object below v.objects.counter;
-      light = stays_small l s (Remove d) v f } in
+      light = stays_small l s (Remove d) v f;
+    } in
     record { agrees = agrees; faultless = clear l t (Create (object_back d)) clean }
 
 pub get_set : {X : Type 0} (xs : List X) (i : ℕ) (v w : X) → slice_get xs i ≡ Some v → slice_get (slice_set xs i w) i ≡ Some w
@@ -219,12 +232,19 @@ set l s o a old new v f =
     let agrees : SettingAgrees l t o a new old = record {
       values = (g.values.1, g.values.0);
       same = λ y e. subst (λ (z : Object). slot l z a ≡ Some new) (inside_some x' y (sym put ∙ e))
-        (slot_set_at at (place l x'.class a) k.0 old new (g.same k.0 k.1) (ap (λ (c : ℕ). place l c a) (class_set_at at k.0 new))) } in
+          (slot_set_at at (place l x'.class a) k.0 old new (g.same k.0 k.1) (ap (λ (c : ℕ). place l c a) (class_set_at at k.0 new)));
+    } in
     let clean : Faultless l t (SetSlot o a new old) = record {
-      name = refl; concrete = refl; fresh = refl; there = refl;
+      name = refl;
+      concrete = refl;
+      fresh = refl;
+      there = refl;
       live = there (object t o) x' put;
-      object_room = refl; link_room = refl; number = refl;
-      light = subst (λ (u : State). grows_too_large u (SetSlot o a new old) ≡ false) same (stays_small l s (SetSlot o a old new) v f) } in
+      object_room = refl;
+      link_room = refl;
+      number = refl;
+      light = subst (λ (u : State). grows_too_large u (SetSlot o a new old) ≡ false) same (stays_small l s (SetSlot o a old new) v f);
+    } in
     let fits : Fits l t (SetSlot o a new old) = record { agrees = agrees; faultless = clear l t (SetSlot o a new old) clean } in
     subst (λ (u : State). Fits l u (SetSlot o a new old)) (sym same) fits
 
@@ -240,13 +260,19 @@ linked l s d v f =
     let agrees : UnlinkingAgrees l t (link_back d) = record {
       ends = record { known = g.ends.known; first = g.ends.first; second = g.ends.second; before = refl; after = under d.before s.next_stamp last_number g.ends.before v.links.counter };
       same = λ m e eq. ⊎_elim (λ new. ap (λ (z : ℕ × ℕ). z.1) new.0) (λ old. absurd (link_missing s d.assoc d.first d.second none m old eq)) (found m (d.first, d.second) e);
-      others = λ m p e ne. ⊎_elim (λ new. absurd (ne (ap (λ (z : ℕ × ℕ). z.1) new.0))) (λ old. below_counter m.1 s.next_stamp d.before g.ends.before (v.links.below m p old)) (found m p e) } in
+      others = λ m p e ne. ⊎_elim (λ new. absurd (ne (ap (λ (z : ℕ × ℕ). z.1) new.0))) (λ old. below_counter m.1 s.next_stamp d.before g.ends.before (v.links.below m p old)) (found m p e);
+    } in
     let clean : Faultless l t (Unlink (link_back d)) = record {
-      name = refl; concrete = refl; fresh = refl;
+      name = refl;
+      concrete = refl;
+      fresh = refl;
       there = turned_off (is_linked t (link_back d)) (is_there t d.assoc d.stamp d.first d.second put);
       live = neither_true (is_gone t d.first) (is_gone t d.second) (there (object s d.first) ends.0.0 ends.0.1) (there (object s d.second) ends.1.0 ends.1.1);
-      object_room = refl; link_room = refl; number = refl;
-      light = stays_small l s (Link d) v f } in
+      object_room = refl;
+      link_room = refl;
+      number = refl;
+      light = stays_small l s (Link d) v f;
+    } in
     record { agrees = agrees; faultless = clear l t (Unlink (link_back d)) clean }
 
 unlinked_again : (l : Layout) (s : State) (d : LinkChange) → IsValid l s → Fits l s (Unlink d) → Fits l (apply l s (Unlink d)) (Link (link_back d))
@@ -261,19 +287,22 @@ unlinked_again l s d v f =
     let agrees : LinkingAgrees l t (link_back d) = record {
       ends = record { known = g.ends.known; first = g.ends.first; second = g.ends.second; before = refl; after = under d.before s.next_stamp last_number g.ends.before v.links.counter };
       free = λ ne m p e same. let r = found m p e in
-        r.1 (λ i. (v.links.stamps m (d.assoc, d.stamp) p (d.first, d.second) r.0 was same i, same i));
+          r.1 (λ i. (v.links.stamps m (d.assoc, d.stamp) p (d.first, d.second) r.0 was same i, same i));
       stamp = λ ne. below_counter d.stamp s.next_stamp d.before g.ends.before below;
-      others = λ ne m p e. below_counter m.1 s.next_stamp d.before g.ends.before (v.links.below m p (found m p e).0) } in
+      others = λ ne m p e. below_counter m.1 s.next_stamp d.before g.ends.before (v.links.below m p (found m p e).0);
+    } in
     let clean : Faultless l t (Link (link_back d)) = record {
-      name = refl; concrete = refl;
+      name = refl;
+      concrete = refl;
       fresh = unlinked t d.assoc d.first d.second (sorted_remove link_total (is_at (link_cmp (d.assoc, d.stamp))) s.links v.links.ordered)
-        (λ m e eq. let r = found m (d.first, d.second) e in r.1 (λ i. (eq i, v.links.once m (d.assoc, d.stamp) (d.first, d.second) r.0 was eq i)));
+          (λ m e eq. let r = found m (d.first, d.second) e in r.1 (λ i. (eq i, v.links.once m (d.assoc, d.stamp) (d.first, d.second) r.0 was eq i)));
       there = refl;
       live = neither_true (is_gone t d.first) (is_gone t d.second) (there (object s d.first) ends.0.0 ends.0.1) (there (object s d.second) ends.1.0 ends.1.1);
       object_room = refl;
       link_room = has_room max_links (length s.links) _ (length_remove (is_at (link_cmp (d.assoc, d.stamp))) s.links (d.first, d.second) was) v.links.fit;
       number = not_last d.stamp s.next_stamp below v.links.counter;
-      light = stays_small l s (Unlink d) v f } in
+      light = stays_small l s (Unlink d) v f;
+    } in
     record { agrees = agrees; faultless = clear l t (Link (link_back d)) clean }
 
 bound : (l : Layout) (s : State) (name : List ℕ) (old : Option Variable) (new : Variable) → IsValid l s → Fits l s (Bind name old new) → Fits l (apply l s (Bind name old new)) (unbinding name new old)
@@ -281,8 +310,16 @@ bound l s name None new v f =
     let t = apply l s (Bind name None new) in
     let put : variable t name ≡ Some new = put_insert nat_list_cmp_total exact_bytes s.variables name new in
     let clean : Faultless l t (Unbind name new) = record {
-      name = refl; concrete = refl; fresh = refl; there = refl; live = refl; object_room = refl; link_room = refl; number = refl;
-      light = stays_small l s (Bind name None new) v f } in
+      name = refl;
+      concrete = refl;
+      fresh = refl;
+      there = refl;
+      live = refl;
+      object_room = refl;
+      link_room = refl;
+      number = refl;
+      light = stays_small l s (Bind name None new) v f;
+    } in
     record { agrees = put; faultless = clear l t (Unbind name new) clean }
 bound l s name (Some old) new v f =
     let g : BindingAgrees s name (Some old) new = f.agrees in
@@ -290,10 +327,19 @@ bound l s name (Some old) new v f =
     let t = apply l s (Bind name (Some old) new) in
     let agrees : BindingAgrees t name (Some new) old = record {
       value = v.variables.values name old g.same;
-      same = put_insert nat_list_cmp_total exact_bytes s.variables name new } in
+      same = put_insert nat_list_cmp_total exact_bytes s.variables name new;
+    } in
     let clean : Faultless l t (Bind name (Some new) old) = record {
-      name = k.name; concrete = refl; fresh = refl; there = refl; live = refl; object_room = refl; link_room = refl; number = refl;
-      light = stays_small l s (Bind name (Some old) new) v f } in
+      name = k.name;
+      concrete = refl;
+      fresh = refl;
+      there = refl;
+      live = refl;
+      object_room = refl;
+      link_room = refl;
+      number = refl;
+      light = stays_small l s (Bind name (Some old) new) v f;
+    } in
     record { agrees = agrees; faultless = clear l t (Bind name (Some new) old) clean }
 
 unbound : (l : Layout) (s : State) (name : List ℕ) (old : Variable) → IsValid l s → Fits l s (Unbind name old) → Fits l (apply l s (Unbind name old)) (Bind name None old)
@@ -302,11 +348,19 @@ unbound l s name old v f =
     let t = apply l s (Unbind name old) in
     let agrees : BindingAgrees t name None old = record {
       value = v.variables.values name old g;
-      same = gone_remove nat_list_cmp_total exact_bytes s.variables name v.variables.ordered } in
+      same = gone_remove nat_list_cmp_total exact_bytes s.variables name v.variables.ordered;
+    } in
     let clean : Faultless l t (Bind name None old) = record {
       name = unnamed s name v.objects.ordered (λ o x e same. some≢none old (sym g ∙ ap (λ (n : List ℕ). variable s n) (sym same) ∙ v.apart o x e));
-      concrete = refl; fresh = refl; there = refl; live = refl; object_room = refl; link_room = refl; number = refl;
-      light = stays_small l s (Unbind name old) v f } in
+      concrete = refl;
+      fresh = refl;
+      there = refl;
+      live = refl;
+      object_room = refl;
+      link_room = refl;
+      number = refl;
+      light = stays_small l s (Unbind name old) v f;
+    } in
     record { agrees = agrees; faultless = clear l t (Bind name None old) clean }
 
 pub fits_back : (l : Layout) (s : State) (c : Change) → IsValid l s → Fits l s c → Fits l (apply l s c) (inverse c)

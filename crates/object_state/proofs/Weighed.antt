@@ -70,7 +70,7 @@ weighs l s (Create d) v f =
     let e = sum_by-insert_entry object_weight nat_cmp_total s.objects d.object (object_of d) v.objects.ordered in
     let e' = subst (λ (u : Option Object). sum_by object_weight (values_of (insert_entry nat_cmp s.objects d.object (object_of d))) + unwrap_or (option_map object_weight u) 0 ≡ sum_by object_weight (values_of s.objects) + object_weight (object_of d)) free e in
     objects_gain (sum_by object_weight (values_of (insert_entry nat_cmp s.objects d.object (object_of d)))) (sum_by object_weight (values_of s.objects))
-      (sum_by variable_weight (values_of s.variables)) (length s.links) (object_weight (object_of d)) e'
+    (sum_by variable_weight (values_of s.variables)) (length s.links) (object_weight (object_of d)) e'
 weighs l s (Remove d) v f =
     let g : RemovalAgrees l s d = f.agrees in
     let k = live (object s d.object) (faultless l s (Remove d) f.faultless).live in
@@ -78,7 +78,7 @@ weighs l s (Remove d) v f =
     let e = sum_by-remove_entry object_weight (is_at (nat_cmp d.object)) s.objects in
     let e' = subst (λ (u : Option Object). sum_by object_weight (values_of (remove_entry (is_at (nat_cmp d.object)) s.objects)) + unwrap_or (option_map object_weight u) 0 ≡ sum_by object_weight (values_of s.objects)) there e in
     objects_lose (sum_by object_weight (values_of (remove_entry (is_at (nat_cmp d.object)) s.objects))) (sum_by object_weight (values_of s.objects))
-      (sum_by variable_weight (values_of s.variables)) (length s.links) (object_weight (object_of d)) e'
+    (sum_by variable_weight (values_of s.variables)) (length s.links) (object_weight (object_of d)) e'
 weighs l s (SetSlot o a old new) v f =
     let g : SettingAgrees l s o a old new = f.agrees in
     let k = live (object s o) (faultless l s (SetSlot o a old new) f.faultless).live in
@@ -87,29 +87,29 @@ weighs l s (SetSlot o a old new) v f =
     let h = set_at_weight (place l (k.0).class a) k.0 old new (g.same k.0 k.1) in
     ap (λ (t : State). weight t + size_of old) (apply_set l s o a old new k.0 k.1)
     ∙ objects_turn (sum_by object_weight (values_of (set_value (is_at (nat_cmp o)) s.objects x'))) (sum_by object_weight (values_of s.objects))
-        (sum_by variable_weight (values_of s.variables)) (length s.links) (object_weight k.0) (object_weight x') (size_of old) (size_of new) e h
+    (sum_by variable_weight (values_of s.variables)) (length s.links) (object_weight k.0) (object_weight x') (size_of old) (size_of new) e h
 weighs l s (Link d) v f =
     links_gain (sum_by object_weight (values_of s.objects)) (sum_by variable_weight (values_of s.variables)) (length (insert_entry link_cmp s.links (d.assoc, d.stamp) (d.first, d.second))) (length s.links)
-      (length_insert link_cmp s.links (d.assoc, d.stamp) (d.first, d.second) (link_free l s d f))
+    (length_insert link_cmp s.links (d.assoc, d.stamp) (d.first, d.second) (link_free l s d f))
 weighs l s (Unlink d) v f =
     let g : UnlinkingAgrees l s d = f.agrees in
     let k = faultless l s (Unlink d) f.faultless in
     let there = stamp_is l s d v.links.ordered g (turned (is_linked s d) k.there) in
     links_lose (sum_by object_weight (values_of s.objects)) (sum_by variable_weight (values_of s.variables)) (length (remove_entry (is_at (link_cmp (d.assoc, d.stamp))) s.links)) (length s.links)
-      (length_remove (is_at (link_cmp (d.assoc, d.stamp))) s.links (d.first, d.second) there)
+    (length_remove (is_at (link_cmp (d.assoc, d.stamp))) s.links (d.first, d.second) there)
 weighs l s (Bind name old new) v f =
     let g : BindingAgrees s name old new = f.agrees in
     let e = sum_by-insert_entry variable_weight nat_list_cmp_total s.variables name new v.variables.ordered in
     let e' = subst (λ (u : Option Variable). sum_by variable_weight (values_of (insert_entry text_cmp s.variables name new)) + unwrap_or (option_map variable_weight u) 0 ≡ sum_by variable_weight (values_of s.variables) + variable_weight new) g.same e in
     let e'' = subst (λ (z : ℕ). sum_by variable_weight (values_of (insert_entry text_cmp s.variables name new)) + z ≡ sum_by variable_weight (values_of s.variables) + variable_weight new) (bound old) e' in
     variables_turn (sum_by object_weight (values_of s.objects)) (sum_by variable_weight (values_of (insert_entry text_cmp s.variables name new))) (sum_by variable_weight (values_of s.variables)) (length s.links)
-      (option_map_or variable_weight old 0) (variable_weight new) e''
+    (option_map_or variable_weight old 0) (variable_weight new) e''
 weighs l s (Unbind name old) v f =
     let g : variable s name ≡ Some old = f.agrees in
     let e = sum_by-remove_entry variable_weight (is_at (text_cmp name)) s.variables in
     let e' = subst (λ (u : Option Variable). sum_by variable_weight (values_of (remove_entry (is_at (text_cmp name)) s.variables)) + unwrap_or (option_map variable_weight u) 0 ≡ sum_by variable_weight (values_of s.variables)) g e in
     variables_lose (sum_by object_weight (values_of s.objects)) (sum_by variable_weight (values_of (remove_entry (is_at (text_cmp name)) s.variables))) (sum_by variable_weight (values_of s.variables)) (length s.links)
-      (variable_weight old) e'
+    (variable_weight old) e'
 
 not_heavy : (w m lo ga : ℕ) → (nat_lt lo ga && nat_lt (m + lo) (w + ga)) ≡ false → w ≤ m → w + ga ≤ m + lo
 not_heavy w m lo ga h up = by (nat_lt lo ga) (nat_lt (m + lo) (w + ga)) refl refl h
@@ -125,4 +125,4 @@ after w w' m lo ga e h = omega arith
 pub stays_light : (l : Layout) (s : State) (c : Change) → IsValid l s → Fits l s c → weight (apply l s c) ≤ max_weight
 stays_light l s c v f =
     after (weight s) (weight (apply l s c)) max_weight (lost c) (gained c) (weighs l s c v f)
-      (not_heavy (weight s) max_weight (lost c) (gained c) (faultless l s c f.faultless).light v.light)
+    (not_heavy (weight s) max_weight (lost c) (gained c) (faultless l s c f.faultless).light v.light)

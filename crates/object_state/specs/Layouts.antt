@@ -20,7 +20,8 @@ class_layout m c is_abstract = record { is_abstract = is_abstract; attrs = model
 abbrev pub layout_of : ObjectModel → Layout
 layout_of m = record {
   classes = map (λ c. class_layout m c.0 c.1.is_abstract) (enumerate_from 0 m.classes);
-  assocs = map (λ a. record { first = a.first.class; second = a.second.class }) m.assocs }
+  assocs = map (λ a. record { first = a.first.class; second = a.second.class }) m.assocs;
+}
 
 abbrev pub is_abstract : Layout → ℕ → Bool
 is_abstract l c = option_map_or (λ x. x.is_abstract) (slice_get l.classes c) false

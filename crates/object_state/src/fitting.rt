@@ -53,7 +53,11 @@ fn grows_too_large<S: StateReader>(store: &S, change: &Change) -> bool
     lost < gained && MAX_WEIGHT + lost < store.weight().saturating_add(gained)
 }
 
-fn creation_fault<S: StateReader>(store: &S, new: &ObjectChange, is_large: bool) -> Option<StoreFault>
+fn creation_fault<S: StateReader>(
+    store: &S,
+    new: &ObjectChange,
+    is_large: bool,
+) -> Option<StoreFault>
     ensures { result ≡ first_fault ((is_some (object_named (S.held store.now).state new.now.name) || is_some (variable (S.held store.now).state new.now.name), X1)
         ∷ (is_abstract (S.held store.now).layout new.now.class, X2) ∷ (nat_le max_objects (length (S.held store.now).state.objects), X6)
         ∷ (nat_eq new.now.object last_number, X15) ∷ (is_large, X8) ∷ []) }

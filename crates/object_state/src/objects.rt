@@ -56,13 +56,7 @@ pub fn object_of(alloc: Global, new: &ObjectChange) -> Result<Object, AllocError
 }
 
 /// Stores a value in an object, where it has the attribute.
-pub fn set_slot(
-    alloc: Global,
-    layout: &Layout,
-    object: &mut Object,
-    attr: AttrNo,
-    value: Value,
-)
+pub fn set_slot(alloc: Global, layout: &Layout, object: &mut Object, attr: AttrNo, value: Value)
     ensures { object.new ≡ with_slot layout.now object.old attr value }
 {
     if let Some(place) = layout.place(object.class, attr) {

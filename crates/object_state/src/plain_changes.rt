@@ -26,7 +26,10 @@ impl PlainStore {
                 Ok(())
             }
             Change::SetSlot {
-                object, attr, new, ..
+                object,
+                attr,
+                new,
+                ..
             } => {
                 let value = new.try_copy(self.alloc)?;
                 self.objects
@@ -46,7 +49,8 @@ impl PlainStore {
             }
             Change::Bind { name, new, .. } => {
                 let key = Text::copy_of(self.alloc, name.as_str())?;
-                self.variables.insert(key, new.try_copy(self.alloc)?)
+                self.variables.insert(key, new.try_copy(self.alloc)?)?;
+                Ok(())
             }
             Change::Unbind { name, .. } => {
                 self.variables.remove(name);

@@ -63,6 +63,10 @@ fn objects_in(
 impl StateReader for PlainStore {
     ghost held = { λ s. s };
 
+    fn state_is_valid(&self) {
+        let _ = &self.layout;
+    }
+
     fn layout(&self) -> &Layout {
         &self.layout
     }
@@ -72,7 +76,11 @@ impl StateReader for PlainStore {
     }
 
     fn object_named(&self, name: &str) -> Option<ObjNo> {
-        self.objects.as_slice().iter().find(|entry| entry.1.name.as_str() == name).map(|entry| entry.0)
+        self.objects
+            .as_slice()
+            .iter()
+            .find(|entry| entry.1.name.as_str() == name)
+            .map(|entry| entry.0)
     }
 
     fn variable(&self, name: &str) -> Option<&Variable> {
@@ -96,7 +104,9 @@ impl StateReader for PlainStore {
     }
 
     fn weight(&self) -> u64 {
-        objects_weight(self.objects.as_slice()) + variables_weight(self.variables.as_slice()) + self.links.len() as u64
+        objects_weight(self.objects.as_slice())
+            + variables_weight(self.variables.as_slice())
+            + self.links.len() as u64
     }
 
     fn counters(&self) -> (u32, u32) {

@@ -23,6 +23,10 @@ pub trait StateReader {
     /// The state that it holds, with its layout.
     ghost held: { Self → Diagram };
 
+    /// A law: the state is valid.
+    fn state_is_valid(&self)
+        ensures { IsValid (held self.now).layout (held self.now).state };
+
     fn layout(&self) -> &Layout
         ensures { result.now ≡ (held self.now).layout };
 
@@ -84,10 +88,10 @@ pub trait StateReader {
 
     /// Whether a change fits the state, which its old parts agree with; else its first fault.
     final fn fits(&self, change: &Change) -> Result<(), StoreFault>
-        requires valid { IsValid (held self.now).layout (held self.now).state }
-        requires agrees { OldPartsAgree (held self.now).layout (held self.now).state change.now }
+        requires { OldPartsAgree (held self.now).layout (held self.now).state change.now }
         ensures { result_err result ≡ fault (held self.now).layout (held self.now).state change.now }
     {
+        self.state_is_valid();
         match fault(self, change) {
             None => Ok(()),
             Some(found) => Err(found),

@@ -58,11 +58,7 @@ fn add_navs(
     add_nav(layout, change, assoc, ends, End::First, End::Second, out)
 }
 
-fn add_all_navs(
-    layout: &Layout,
-    change: &ObjectChange,
-    out: &mut Cells,
-) -> Result<(), AllocError>
+fn add_all_navs(layout: &Layout, change: &ObjectChange, out: &mut Cells) -> Result<(), AllocError>
     requires { length layout.now.assocs < 2 ^ 32 }
     ensures { OnOk result (out.new ≡ with_cells out.old (flat_map (λ a. navs layout.now change.now a.0 a.1) (enumerate_from 0 layout.now.assocs))) }
 {

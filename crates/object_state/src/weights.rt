@@ -106,7 +106,9 @@ impl Change {
         match self {
             Change::Create(object) => slots_weight(object.slots.as_slice()),
             Change::Remove(object) => slots_weight(object.slots.as_slice()),
-            Change::SetSlot { old, new, .. } => size(old).saturating_add(size(new)).saturating_add(1),
+            Change::SetSlot { old, new, .. } => size(old)
+                .saturating_add(size(new))
+                .saturating_add(1),
             Change::Link(_) => 1,
             Change::Unlink(_) => 1,
             Change::Bind { old, new, .. } => old_size(old).saturating_add(variable_weight(new)),

@@ -10,6 +10,10 @@ use use_lists::Items;
 impl StateReader for Store {
     ghost held = { λ s. s };
 
+    fn state_is_valid(&self) {
+        let _ = &self.tables;
+    }
+
     fn layout(&self) -> &Layout {
         &self.tables.layout
     }

@@ -25,7 +25,9 @@ impl<L: Ledger> World<L> for Store {
         steps: &mut Steps<L>,
     ) -> Result<Option<Value>, AllocError> {
         steps.tick();
-        value_of(alloc, self, object, attr)
+        self.state_is_valid();
+        let value = value_of(alloc, self, object, attr)?;
+        Ok(value)
     }
 
     fn nav(
@@ -37,7 +39,9 @@ impl<L: Ledger> World<L> for Store {
         steps: &mut Steps<L>,
     ) -> Result<Option<Items<Value>>, AllocError> {
         steps.tick();
-        items_at(alloc, self, assoc, end, object)
+        self.state_is_valid();
+        let items = items_at(alloc, self, assoc, end, object)?;
+        Ok(items)
     }
 
     fn extent(
@@ -47,6 +51,8 @@ impl<L: Ledger> World<L> for Store {
         steps: &mut Steps<L>,
     ) -> Result<Items<Value>, AllocError> {
         steps.tick();
-        self.objects_of(alloc, class)
+        self.state_is_valid();
+        let items = self.objects_of(alloc, class)?;
+        Ok(items)
     }
 }
