@@ -11,3 +11,4 @@ pub mod Empty
 pub mod Carried
 pub mod Seen
 pub mod Inside
+pub mod Proposed

@@ -6,3 +6,4 @@ pub mod Changes
 pub mod Valid
 pub mod Faults
 pub mod Touched
+pub mod Proposals

@@ -1,6 +1,7 @@
 //! Object diagrams with indexes, so that a look and a change cost what they touch.
 #![tactic(auto)]
 
+mod by_name;
 mod looks;
 mod store;
 mod tables;

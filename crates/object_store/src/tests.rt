@@ -103,11 +103,12 @@ fn next(alloc: Global, store: &PlainStore, by: &mut Numbers) -> Result<Option<Ch
     let object = recent(store, by);
     let other = recent(store, by);
     let assoc = by.below(2);
-    let name = by.below(15);
+    let name = by.below(12);
+    let object_name = by.below(60) + 8;
     Ok(match by.below(12) {
-        0 => Some(creation(alloc, store, name, by.below(5))?),
-        2 => removal(alloc, store, object)?,
-        3 => match store.object(object) {
+        0 | 1 => Some(creation(alloc, store, object_name, by.below(5))?),
+        2 | 3 => removal(alloc, store, by.below(store.counters().0))?,
+        4 => match store.object(object) {
             None => Some(Change::SetSlot {
                 object,
                 attr: 0,
@@ -124,10 +125,8 @@ fn next(alloc: Global, store: &PlainStore, by: &mut Numbers) -> Result<Option<Ch
                 }),
             },
         },
-        4..=6 => linking(store, assoc, object, other),
-        7..=9 => store
-            .stamp(assoc, object, other)
-            .map(|stamp| unlinking(store, assoc, object, other, stamp)),
+        5 | 6 => linking(store, assoc, object, other),
+        7 | 8 => first_link(alloc, store, assoc, object)?,
         _ => binding(alloc, store, name, by.below(100))?,
     })
 }
@@ -197,6 +196,22 @@ fn linking(store: &PlainStore, assoc: u32, first: u32, second: u32) -> Option<Ch
         before,
         after: before.saturating_add(1),
     }))
+}
+
+/// The first link of an association that has an object at its second end goes.
+fn first_link(
+    alloc: Global,
+    store: &PlainStore,
+    assoc: u32,
+    second: u32,
+) -> Result<Option<Change>, AllocError> {
+    let joined = store.joined(alloc, assoc, End::First, second)?;
+    Ok(match joined.get(0) {
+        Some(Value::Obj(first)) => store
+            .stamp(assoc, *first, second)
+            .map(|stamp| unlinking(store, assoc, *first, second, stamp)),
+        _ => None,
+    })
 }
 
 fn unlinking(store: &PlainStore, assoc: u32, first: u32, second: u32, stamp: u32) -> Change {
@@ -293,7 +308,7 @@ fn copy_of_object(alloc: Global, d: &ObjectChange) -> Result<ObjectChange, Alloc
 /// Every cell that the walk can reach.
 fn all_cells(alloc: Global) -> Result<Vec<Cell>, AllocError> {
     let mut cells = Vec::new(alloc);
-    'objects: for object in 0..40 {
+    'objects: for object in 0..30 {
         cells.push(Cell::Kind(object))?;
         'attrs: for attr in 0..4 {
             cells.push(Cell::Slot(object, attr))?;
@@ -347,7 +362,7 @@ fn both_stores_agree_on_a_random_walk_there_and_back(rt: HostRuntime) -> Result<
     let mut back = Vec::new(alloc);
     let mut kinds = [0u32; 7];
     let mut refused = 0u32;
-    'walk: for _step in 0..300 {
+    'walk: for _step in 0..250 {
         let Some(change) = next(alloc, &plain, &mut by)? else {
             continue 'walk;
         };
@@ -385,7 +400,7 @@ fn both_stores_agree_on_a_random_walk_there_and_back(rt: HostRuntime) -> Result<
         back.push(inverse)?;
     }
     'kinds: for count in kinds {
-        assert!(rt; count > 5);
+        assert!(rt; count > 2);
     }
     assert!(rt; refused > 10);
     'back: while let Some(change) = back.pop() {
