@@ -44,7 +44,8 @@ creation_agrees l s name class v h = record {
   after = within s.next_object;
   free = λ ne. absent (object s s.next_object) (λ x e. not_below s.next_object (v.objects.below s.next_object x e));
   number = λ ne. rises s.next_object v.objects.counter ne;
-  others = λ ne o x e. stays o s.next_object (v.objects.below o x e) v.objects.counter }
+  others = λ ne o x e. stays o s.next_object (v.objects.below o x e) v.objects.counter;
+}
 
 pub linking_agrees : (l : Layout) (s : State) (a f g : ℕ) → IsValid l s → a < length l.assocs
     → may_be_linked l s a f g ≡ true → LinkingAgrees l s (linking s a f g)
@@ -54,7 +55,9 @@ linking_agrees l s a f g v h t = let r = both (may_be_at l s a First f) (may_be_
     first = λ x e. sym (ap (λ (u : Option Object). option_map_or (λ (x : Object). may_stand l a First x.class) u true) e) ∙ r.0;
     second = λ x e. sym (ap (λ (u : Option Object). option_map_or (λ (x : Object). may_stand l a Second x.class) u true) e) ∙ r.1;
     before = refl;
-    after = within s.next_stamp };
+    after = within s.next_stamp;
+  };
   free = λ ne k pair e same. not_below s.next_stamp (subst (λ (n : ℕ). n < s.next_stamp) same (v.links.below k pair e));
   stamp = λ ne. rises s.next_stamp v.links.counter ne;
-  others = λ ne k pair e. stays k.1 s.next_stamp (v.links.below k pair e) v.links.counter }
+  others = λ ne k pair e. stays k.1 s.next_stamp (v.links.below k pair e) v.links.counter;
+}

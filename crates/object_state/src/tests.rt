@@ -62,7 +62,10 @@ fn a_new_store_is_empty(rt: HostRuntime) -> Result<(), Fail> {
     assert!(rt; store.variable("a").is_none());
     assert_eq!(rt; store.stamp(0, 1, 2), None);
     assert_eq!(rt; store.look(alloc, &Cell::Kind(1))?, Look::Absent);
-    assert_eq!(rt; store.look(alloc, &Cell::Extent(0))?, Look::Items(Items::new(alloc)));
+    assert_eq!(rt;
+        store.look(alloc, &Cell::Extent(0))?,
+        Look::Items(Items::new(alloc))
+    );
     Ok(())
 }
 
@@ -81,13 +84,25 @@ fn an_object_is_of_its_class_and_all_ancestors(rt: HostRuntime) -> Result<(), Fa
         if is_there {
             seen.push(Value::Obj(1))?;
         }
-        assert_eq!(rt; store.look(alloc, &Cell::Extent(class))?, Look::Items(Items::from_vec(seen)));
+        assert_eq!(rt;
+            store.look(alloc, &Cell::Extent(class))?,
+            Look::Items(Items::from_vec(seen))
+        );
     }
     assert_eq!(rt; store.look(alloc, &Cell::Kind(1))?, Look::Class(3));
-    assert_eq!(rt; store.look(alloc, &Cell::Slot(1, 2))?, Look::Value(Value::Null));
+    assert_eq!(rt;
+        store.look(alloc, &Cell::Slot(1, 2))?,
+        Look::Value(Value::Null)
+    );
     assert_eq!(rt; store.look(alloc, &Cell::Slot(1, 3))?, Look::Absent);
-    assert_eq!(rt; store.look(alloc, &Cell::Nav(0, End::First, 1))?, Look::Items(Items::new(alloc)));
-    assert_eq!(rt; store.look(alloc, &Cell::Nav(1, End::First, 1))?, Look::Absent);
+    assert_eq!(rt;
+        store.look(alloc, &Cell::Nav(0, End::First, 1))?,
+        Look::Items(Items::new(alloc))
+    );
+    assert_eq!(rt;
+        store.look(alloc, &Cell::Nav(1, End::First, 1))?,
+        Look::Absent
+    );
     assert!(rt; create(alloc, &mut store, "d", 0)?.is_none());
     assert!(rt; create(alloc, &mut store, "e", 4)?.is_none());
     Ok(())

@@ -89,10 +89,12 @@ indexed h (Create d) = record h { names = insert_entry text_cmp h.names d.name d
 indexed h (Remove d) = record h { names = remove_entry (is_at (text_cmp d.name)) h.names; extents = left h.extents (ancestors h.layout d.class) d.object }
 indexed h (Link d) = record h {
   pairs = insert_entry pair_cmp h.pairs (d.assoc, d.first, d.second) d.stamp;
-  ends = insert_entry end_cmp (insert_entry end_cmp h.ends (d.assoc, First, d.second, d.stamp) d.first) (d.assoc, Second, d.first, d.stamp) d.second }
+  ends = insert_entry end_cmp (insert_entry end_cmp h.ends (d.assoc, First, d.second, d.stamp) d.first) (d.assoc, Second, d.first, d.stamp) d.second;
+}
 indexed h (Unlink d) = record h {
   pairs = remove_entry (is_at (pair_cmp (d.assoc, d.first, d.second))) h.pairs;
-  ends = remove_entry (is_at (end_cmp (d.assoc, Second, d.first, d.stamp))) (remove_entry (is_at (end_cmp (d.assoc, First, d.second, d.stamp))) h.ends) }
+  ends = remove_entry (is_at (end_cmp (d.assoc, Second, d.first, d.stamp))) (remove_entry (is_at (end_cmp (d.assoc, First, d.second, d.stamp))) h.ends);
+}
 indexed h c = h
 
 abbrev pub carried : Held → Change → Held

@@ -206,7 +206,10 @@ impl Tables {
                 Ok(())
             }
             Change::SetSlot {
-                object, attr, new, ..
+                object,
+                attr,
+                new,
+                ..
             } => self.set_slot(*object, *attr, new),
             Change::Link(new) => self.link(new),
             Change::Unlink(old) => {

@@ -1,6 +1,6 @@
 use crate::Store;
-use object_state::{StateReader, World, class_of, items_at, value_of};
 use class_model::{AssocNo, AttrNo, ClassNo, End};
+use object_state::{StateReader, World, class_of, items_at, value_of};
 use ocl_values::{ObjNo, Value};
 use std::alloc::{AllocError, Global};
 use std::sync::ledger::Ledger;

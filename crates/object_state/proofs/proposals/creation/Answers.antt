@@ -8,4 +8,4 @@ pub returns-clause-agrees : goal.returns-clause-agrees
 returns-clause-agrees g c =
     let d = g.S.StateReader.held c.args.store.now in
     subst (λ (x : Change). OldPartsAgree d.layout d.state x) (sym c.in_ok-change.ensures)
-      (creation_agrees d.layout d.state c.args.name c.args.class c.state_is_valid.ensures c.requires)
+    (creation_agrees d.layout d.state c.args.name c.args.class c.state_is_valid.ensures c.requires)
