@@ -17,14 +17,10 @@ fn next(number: u32) -> u32
 }
 
 /// A null for each attribute.
-fn nulls(alloc: Global, attrs: &[AttrNo]) -> Result<Items<Value>, AllocError>
-    ensures { IfOk result (λ items. items ≡ map (λ a. Null) attrs.now) }
+fn nulls(alloc: Global, attrs: &[AttrNo]) -> Result<Vec<Value>, AllocError>
+    ensures { IfOk result (λ v. v.items ≡ map (λ a. Null) attrs.now) }
 {
-    let mut items = Items::new(alloc);
-    'attrs: for _attr in attrs {
-        items.push(Value::Null)?;
-    }
-    Ok(items)
+    attrs.iter().map(|_attr| Value::Null).collect(alloc)
 }
 
 /// An object of nulls at the next number.
@@ -36,7 +32,7 @@ fn new_object<S: StateReader>(
 ) -> Result<Change, AllocError>
     ensures { IfOk result (λ c. c ≡ Create (creation (S.held store.now).layout (S.held store.now).state name class)) }
 {
-    let slots = nulls(alloc, store.layout().attrs(class))?;
+    let slots = Items::from_vec(nulls(alloc, store.layout().attrs(class))?);
     let before = store.counters().0;
     Ok(Change::Create(ObjectChange {
         object: before,
