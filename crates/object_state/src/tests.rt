@@ -2,6 +2,7 @@ use super::*;
 use class_model::{End, OclType};
 use ocl_values::{Text, Value};
 use std::alloc::{AllocError, Global};
+use std::process::Abort;
 use std::test::Fail;
 use use_lists::Items;
 
@@ -52,6 +53,45 @@ fn create(
     }
 }
 
+/// A look as the tables below write it.
+#[derive(Clone, Copy, Debug)]
+enum Seen {
+    Absent,
+    Class(u32),
+    Null,
+    Objects(&'static [u32]),
+}
+
+fn look_of(alloc: Global, seen: Seen) -> Result<Look, AllocError> {
+    Ok(match seen {
+        Seen::Absent => Look::Absent,
+        Seen::Class(class) => Look::Class(class),
+        Seen::Null => Look::Value(Value::Null),
+        Seen::Objects(numbers) => {
+            let mut items = Items::new(alloc);
+            'numbers: for number in numbers {
+                items.push(Value::Obj(*number))?;
+            }
+            Look::Items(items)
+        }
+    })
+}
+
+fn compare(
+    rt: &impl Abort,
+    alloc: Global,
+    store: &PlainStore,
+    rows: &[(Cell, Seen)],
+) -> Result<(), AllocError> {
+    'rows: for (cell, seen) in rows {
+        assert!(rt;
+            store.look(alloc, cell)? == look_of(alloc, *seen)?,
+            "{cell:?}"
+        );
+    }
+    Ok(())
+}
+
 #[test]
 fn a_new_store_is_empty(rt: HostRuntime) -> Result<(), Fail> {
     let alloc = rt.alloc();
@@ -59,13 +99,12 @@ fn a_new_store_is_empty(rt: HostRuntime) -> Result<(), Fail> {
     assert_eq!(rt; store.counters(), (1, 1));
     assert_eq!(rt; store.weight(), 0);
     assert_eq!(rt; store.object_named("a"), None);
-    assert!(rt; store.variable("a").is_none());
     assert_eq!(rt; store.stamp(0, 1, 2), None);
-    assert_eq!(rt; store.look(alloc, &Cell::Kind(1))?, Look::Absent);
-    assert_eq!(rt;
-        store.look(alloc, &Cell::Extent(0))?,
-        Look::Items(Items::new(alloc))
-    );
+    let rows = [
+        (Cell::Kind(1), Seen::Absent),
+        (Cell::Extent(0), Seen::Objects(&[])),
+    ];
+    compare(&rt, alloc, &store, &rows)?;
     Ok(())
 }
 
@@ -74,43 +113,45 @@ fn an_object_is_of_its_class_and_all_ancestors(rt: HostRuntime) -> Result<(), Fa
     let alloc = rt.alloc();
     let mut store = PlainStore::new(alloc, layout(alloc)?);
     assert!(rt; create(alloc, &mut store, "d", 3)?.is_some());
+    let rows = [
+        (Cell::Kind(1), Seen::Class(3)),
+        (Cell::Slot(1, 2), Seen::Null),
+        (Cell::Slot(1, 3), Seen::Absent),
+        (Cell::Nav(0, End::First, 1), Seen::Objects(&[])),
+        (Cell::Nav(1, End::First, 1), Seen::Absent),
+        (Cell::Extent(0), Seen::Objects(&[1])),
+        (Cell::Extent(1), Seen::Objects(&[1])),
+        (Cell::Extent(2), Seen::Objects(&[1])),
+        (Cell::Extent(3), Seen::Objects(&[1])),
+        (Cell::Extent(4), Seen::Objects(&[])),
+    ];
+    compare(&rt, alloc, &store, &rows)?;
     assert_eq!(rt; store.counters(), (2, 1));
-    assert_eq!(rt; store.object_named("d"), Some(1));
-    assert_eq!(rt; store.name_of(1), Some("d"));
     assert_eq!(rt; store.weight(), 4);
-    let rows = [(0, true), (1, true), (2, true), (3, true), (4, false)];
-    'rows: for (class, is_there) in rows {
-        let mut seen = Vec::new(alloc);
-        if is_there {
-            seen.push(Value::Obj(1))?;
-        }
-        assert_eq!(rt;
-            store.look(alloc, &Cell::Extent(class))?,
-            Look::Items(Items::from_vec(seen))
-        );
-    }
-    assert_eq!(rt; store.look(alloc, &Cell::Kind(1))?, Look::Class(3));
-    assert_eq!(rt;
-        store.look(alloc, &Cell::Slot(1, 2))?,
-        Look::Value(Value::Null)
-    );
-    assert_eq!(rt; store.look(alloc, &Cell::Slot(1, 3))?, Look::Absent);
-    assert_eq!(rt;
-        store.look(alloc, &Cell::Nav(0, End::First, 1))?,
-        Look::Items(Items::new(alloc))
-    );
-    assert_eq!(rt;
-        store.look(alloc, &Cell::Nav(1, End::First, 1))?,
-        Look::Absent
-    );
-    assert!(rt; create(alloc, &mut store, "d", 0)?.is_none());
-    assert!(rt; create(alloc, &mut store, "e", 4)?.is_none());
+    assert_eq!(rt; store.object_named("d"), Some(1));
     Ok(())
 }
 
 #[test]
-fn a_change_tells_how_it_is_taken_back(rt: HostRuntime) -> Result<(), Fail> {
+fn a_taken_name_and_an_abstract_class_are_refused(rt: HostRuntime) -> Result<(), Fail> {
     let alloc = rt.alloc();
+    let mut store = PlainStore::new(alloc, layout(alloc)?);
+    assert!(rt; create(alloc, &mut store, "d", 3)?.is_some());
+    assert!(rt; create(alloc, &mut store, "d", 0)?.is_none());
+    assert!(rt; create(alloc, &mut store, "e", 4)?.is_none());
+    assert_eq!(rt; store.counters(), (2, 1));
+    Ok(())
+}
+
+fn variable() -> Variable {
+    Variable {
+        of_type: OclType::Int,
+        value: Value::Int(7),
+    }
+}
+
+#[test]
+fn a_link_tells_how_it_is_taken_back(rt: HostRuntime) {
     let there = LinkChange {
         assoc: 0,
         first: 1,
@@ -126,33 +167,38 @@ fn a_change_tells_how_it_is_taken_back(rt: HostRuntime) -> Result<(), Fail> {
     };
     assert!(rt; Change::Link(there).inverse() == Change::Unlink(back));
     assert!(rt; Change::Unlink(back).inverse() == Change::Link(there));
+}
+
+#[test]
+fn a_binding_tells_how_it_is_taken_back(rt: HostRuntime) -> Result<(), Fail> {
+    let alloc = rt.alloc();
     let bound = Change::Bind {
         name: Text::copy_of(alloc, "v")?,
         old: None,
-        new: Variable {
-            of_type: OclType::Int,
-            value: Value::Int(7),
-        },
+        new: variable(),
     };
-    assert_eq!(rt; bound.weight(), 2);
     let unbound = Change::Unbind {
         name: Text::copy_of(alloc, "v")?,
-        old: Variable {
-            of_type: OclType::Int,
-            value: Value::Int(7),
-        },
+        old: variable(),
     };
+    assert_eq!(rt; bound.weight(), 2);
     assert!(rt; bound.inverse() == unbound);
     Ok(())
 }
 
-#[test]
-fn a_creation_touches_its_cells_and_a_link_two(rt: HostRuntime) -> Result<(), Fail> {
-    let alloc = rt.alloc();
+/// What a change touches, where the layout is not too large.
+fn touched_by(alloc: Global, change: &Change) -> Result<Cells, AllocError> {
     let layout = layout(alloc)?;
-    if layout.assocs.len() > 9 {
-        return Ok(());
+    let mut cells = Cells::new(alloc);
+    if layout.assocs.len() < 9 {
+        touched(&layout, change, &mut cells)?;
     }
+    Ok(cells)
+}
+
+#[test]
+fn a_creation_touches_its_cells(rt: HostRuntime) -> Result<(), Fail> {
+    let alloc = rt.alloc();
     let creation = Change::Create(ObjectChange {
         object: 1,
         name: Text::copy_of(alloc, "d")?,
@@ -161,8 +207,7 @@ fn a_creation_touches_its_cells_and_a_link_two(rt: HostRuntime) -> Result<(), Fa
         before: 1,
         after: 2,
     });
-    let mut cells = Cells::new(alloc);
-    touched(&layout, &creation, &mut cells)?;
+    let cells = touched_by(alloc, &creation)?;
     let rows = [
         (Cell::Kind(1), true),
         (Cell::Kind(2), false),
@@ -177,6 +222,12 @@ fn a_creation_touches_its_cells_and_a_link_two(rt: HostRuntime) -> Result<(), Fa
     'rows: for (cell, is_touched) in rows {
         assert_eq!(rt; cells.has(&cell), is_touched);
     }
+    Ok(())
+}
+
+#[test]
+fn a_link_touches_two_navigations(rt: HostRuntime) -> Result<(), Fail> {
+    let alloc = rt.alloc();
     let link = Change::Link(LinkChange {
         assoc: 0,
         first: 3,
@@ -185,10 +236,9 @@ fn a_creation_touches_its_cells_and_a_link_two(rt: HostRuntime) -> Result<(), Fa
         before: 1,
         after: 2,
     });
-    let mut two = Cells::new(alloc);
-    touched(&layout, &link, &mut two)?;
-    assert_eq!(rt; two.iter().count(), 2);
-    assert!(rt; two.has(&Cell::Nav(0, End::First, 4)));
-    assert!(rt; two.has(&Cell::Nav(0, End::Second, 3)));
+    let cells = touched_by(alloc, &link)?;
+    assert_eq!(rt; cells.iter().count(), 2);
+    assert!(rt; cells.has(&Cell::Nav(0, End::First, 4)));
+    assert!(rt; cells.has(&Cell::Nav(0, End::Second, 3)));
     Ok(())
 }
