@@ -1,0 +1,14 @@
+pub mod Keyed
+pub mod Back
+pub mod Weighed
+pub mod Kept
+pub mod Refit
+pub mod Hits
+pub mod Altered
+pub mod Placed
+pub mod Bounds
+pub mod Empty
+pub mod Carried
+pub mod Seen
+pub mod Inside
+pub mod Proposed
