@@ -9,4 +9,5 @@ pub classes-preserved : goal.classes-preserved
 classes-preserved c = λ t.
     c.in_ok-add_first.ensures t
     ∙ rw (c.classes.invariant t, c.as_str.ensures)
-    (named_more (λ name. same_text name t) (get_by_text c.args.names.now t) (λ p. (p.1.now.name.text, T.Class p.0)) c.args.classes.now c.classes.i _ c.classes-test.true c.index-classes-i.is)
+    (named_more (λ name. same_text name t) (get_by_text c.args.names.now t)
+    (λ p. (p.1.now.name.text, T.Class p.0)) c.args.classes.now c.classes.i _ c.classes-test.true c.index-classes-i.is)

@@ -17,6 +17,7 @@ returns c = λ t.
     ∙ ap (λ o. option_or o (lookup (λ name. same_text name t) k))
     (c.in_ok-add_enums.ensures t
     ∙ ap (λ o. option_or o (lookup (λ name. same_text name t) e))
-    (c.in_ok-add_plain_types.ensures t ∙ ap (λ o. option_or o (lookup (λ name. same_text name t) plain_names)) (empty_none c.new-names.result c.new-names.ensures.empty t)))
+    (c.in_ok-add_plain_types.ensures t ∙ ap (λ o. option_or o (lookup (λ name. same_text name t) plain_names))
+    (empty_none c.new-names.result c.new-names.ensures.empty t)))
     ∙ names_joined (λ name. same_text name t) plain_names e k
     ∙ ap (λ l. lookup (λ name. same_text name t) ((plain_names ++ e) ++ l)) (each_map (λ p. (p.1.name.text, T.Class p.0)) (λ d. d.now) 0 c.args.classes.now)
