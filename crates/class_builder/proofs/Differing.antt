@@ -101,12 +101,12 @@ between : (i j : ℕ) (t u : List ℕ) (q r : Ordering) → is_gt (ordering_then
     is_gt (ordering_then (nat_cmp j i) (ordering_then (slice_cmp nat_cmp u t) r)) ≡ false → (nat_eq i j && same_text t u) ≡ true
 between i j t u q r e f =
     let a : nat_cmp i j ≡ Equal = squeezed (nat_cmp i j) (first_not_greater (nat_cmp i j) (ordering_then (slice_cmp nat_cmp t u) q) e)
-        (ap is_gt (sym (nat_cmp_total.antisymm j i)) ∙ first_not_greater (nat_cmp j i) (ordering_then (slice_cmp nat_cmp u t) r) f) in
+    (ap is_gt (sym (nat_cmp_total.antisymm j i)) ∙ first_not_greater (nat_cmp j i) (ordering_then (slice_cmp nat_cmp u t) r) f) in
     let b : nat_cmp j i ≡ Equal = nat_cmp_total.antisymm j i ∙ ap ordering_reverse a in
     let c = then_not_greater (nat_cmp i j) (ordering_then (slice_cmp nat_cmp t u) q) a e in
     let d = then_not_greater (nat_cmp j i) (ordering_then (slice_cmp nat_cmp u t) r) b f in
     let g : slice_cmp nat_cmp t u ≡ Equal = squeezed (slice_cmp nat_cmp t u) (first_not_greater (slice_cmp nat_cmp t u) q c)
-        (ap is_gt (sym (nat_list_cmp_total.antisymm u t)) ∙ first_not_greater (slice_cmp nat_cmp u t) r d) in
+    (ap is_gt (sym (nat_list_cmp_total.antisymm u t)) ∙ first_not_greater (slice_cmp nat_cmp u t) r d) in
     both (nat_eq i j) (same_text t u) (ap (nat_eq i) (sym (nat_cmp-IsAntisymmetric i j a)) ∙ self_is i) (texts_ties t u ∙ ap is_eq g)
 
 sandwich : (a b y : Key) → is_gt (key_cmp a b) ≡ false → is_gt (key_cmp b y) ≡ false → same_key a y ≡ true → same_key a b ≡ true
@@ -239,9 +239,9 @@ own_count t q n (c ∷ cs) zero d e =
     let own : Key → Bool = same_key (n + 0, (t, q)) in
     let a = count-append own (map (λ op. (n, (op.name.text, op.name.place))) c.ops) (keys_from (n + 1) cs) in
     let b : count (same_text t) (map (λ op. op.name.text) c.ops) ≡ count own (map (λ op. (n, (op.name.text, op.name.place))) c.ops) =
-        sym (count-map (same_text t) (λ op. same_text t op.name.text) (λ op. op.name.text) (λ op. refl) c.ops)
-        ∙ count-map own (λ op. same_text t op.name.text) (λ op. (n, (op.name.text, op.name.place)))
-        (λ op. ap (λ x. x && same_text t op.name.text) (sym (ap (λ j. nat_eq j n) z ∙ self_is n))) c.ops in
+    sym (count-map (same_text t) (λ op. same_text t op.name.text) (λ op. op.name.text) (λ op. refl) c.ops)
+    ∙ count-map own (λ op. same_text t op.name.text) (λ op. (n, (op.name.text, op.name.place)))
+    (λ op. ap (λ x. x && same_text t op.name.text) (sym (ap (λ j. nat_eq j n) z ∙ self_is n))) c.ops in
     let f : count (same_text t) (map (λ op. op.name.text) c.ops) ≡ count (same_text t) (map (λ op. op.name.text) d.ops) = ap
     (λ (x : ClassDecl). count (same_text t) (map (λ op. op.name.text) x.ops)) k in
     omega arith
@@ -307,7 +307,7 @@ pigeon (w ∷ ws) xs one within =
     let size = removed_length w xs there in
     let none : count (same_text w) ws ≡ 0 = (let k = one w in let n = one_if (same_text w w) (text_self w) in omega arith) in
     let rest = pigeon ws (remove_one w xs) (λ t. let k = one t in omega arith)
-        (λ t h. kept_text w t xs (not_true (same_text w t) (λ e. absent w t ws e h none)) (within t (or_later (same_text w t) (has_text ws t) h))) in
+    (λ t h. kept_text w t xs (not_true (same_text w t) (λ e. absent w t ws e h none)) (within t (or_later (same_text w t) (has_text ws t) h))) in
     omega arith
 
 has-append : (xs ys : List (List ℕ)) (t : List ℕ) → has_text (xs ++ ys) t ≡ (has_text xs t || has_text ys t)
@@ -357,10 +357,10 @@ module _ (ds : Decls) (ok : broken_rule ds ≡ None) where
       let f : ClassDecl → List (List ℕ) = λ c. map (λ op. op.name.text) c.ops in
       let z : 0 + i ≡ i = omega arith in
       let p = pigeon (f d) (ops_of (above ds i))
-          (λ t. let a = own_count t (record { line = 0; col = 0 }) 0 ds.classes i d is in let b = key_once (0 + i, (t, record { line = 0; col = 0 })) in
-          omega arith)
-          (λ t h. has_text-set_of (flat_map f (above ds i)) (ops_of (above ds i)) t refl
-          ∙ joined_has (class_numbered ds) f (ancestor_numbers ds i) (stands ds ok i d is).at d t (there ds ok i d is) (numbered_class ds ok i d is) h) in
+      (λ t. let a = own_count t (record { line = 0; col = 0 }) 0 ds.classes i d is in let b = key_once (0 + i, (t, record { line = 0; col = 0 })) in
+      omega arith)
+      (λ t h. has_text-set_of (flat_map f (above ds i)) (ops_of (above ds i)) t refl
+      ∙ joined_has (class_numbered ds) f (ancestor_numbers ds i) (stands ds ok i d is).at d t (there ds ok i d is) (numbered_class ds ok i d is) h) in
       let l = length-map d.ops (λ op. op.name.text) in
       let n = op_names ds ok i d is in
       omega arith

@@ -243,10 +243,11 @@ module _ (ds : Decls) (ok : broken_rule ds ≡ None) where
 
   literals_split : (first_given excess_literal (take 200 ds.enums) ≡ None) × (slice_get ds.enums 200 ≡ None)
   literals_split =
-      let e = few_literals ds ok in
-      (none_left (first_given excess_literal (take 200 ds.enums)) (option_map (λ e. e.name.place) (slice_get ds.enums 200)) e,
-      map_none (λ e. e.name.place) (slice_get ds.enums 200)
-      (none_right (first_given excess_literal (take 200 ds.enums)) (option_map (λ e. e.name.place) (slice_get ds.enums 200)) e))
+      let e = few_literals ds ok in (
+        none_left (first_given excess_literal (take 200 ds.enums)) (option_map (λ e. e.name.place) (slice_get ds.enums 200)) e,
+        map_none (λ e. e.name.place) (slice_get ds.enums 200)
+            (none_right (first_given excess_literal (take 200 ds.enums)) (option_map (λ e. e.name.place) (slice_get ds.enums 200)) e),
+      )
 
   pub few_enums : length ds.enums ≤ 200
   few_enums = short ds.enums 200 literals_split.1
@@ -260,7 +261,7 @@ module _ (ds : Decls) (ok : broken_rule ds ≡ None) where
   ends_some : AllByRecursion (λ a. 0 < length (ordered ds)) ds.assocs
   ends_some =
       let outside = front_nothing (places_outside (is_class ds) (class_references ds)) (places_outside (is_type ds) (type_references ds))
-          (nothing_first (places_outside (is_class ds) (class_references ds) ++ places_outside (is_type ds) (type_references ds)) (known ds ok)) in
+      (nothing_first (places_outside (is_class ds) (class_references ds) ++ places_outside (is_type ds) (type_references ds)) (known ds ok)) in
       let refs : AllByRecursion (λ n. is_class ds n.text ≡ true) (class_references ds) = all_known (is_class ds) (class_references ds) outside in
       let parents = flat_map (λ c. c.parents) ds.classes in
       let ends = flat_map (λ a. a.first.class ∷ a.second.class ∷ []) ds.assocs in
@@ -317,12 +318,12 @@ module _ (ds : Decls) (ok : broken_rule ds ≡ None) where
           (all_with (λ e. length e.literals ≤ 1000) (λ e. length (map (λ n. n.text) e.literals) ≤ 1000)
           (λ e h. let l = length-map e.literals (λ n. n.text) in omega arith) ds.enums few_in_enums));
       attrs = parts_below (stored_in (type_of ds)) (λ i n d e. let a = few_attrs i d e in let l = length-map (filter (λ x. not x.is_derived) d.attrs)
-      (attribute (type_of ds) n) in let k = fewer_kept (λ x. not x.is_derived) d.attrs in omega arith);
+          (attribute (type_of ds) n) in let k = fewer_kept (λ x. not x.is_derived) d.attrs in omega arith);
       derived = parts_below (derived_in (type_of ds)) (λ i n d e. let a = few_attrs i d e in let l = length-map (filter (λ x. x.is_derived) d.attrs)
-      (attribute (type_of ds) n) in let k = fewer_kept (λ x. x.is_derived) d.attrs in omega arith);
+          (attribute (type_of ds) n) in let k = fewer_kept (λ x. x.is_derived) d.attrs in omega arith);
       ops = parts_below (operations_in (type_of ds)) (λ i n d e. let a = few_ops i d e in let l = length-map d.ops (operation (type_of ds) n) in omega arith);
       assocs = let l = length-map ds.assocs (association (class_number (ordered ds))) in let h = short ds.assocs 200
-      (map_none (λ a. a.name.place) (slice_get ds.assocs 200) (few_assocs ds ok)) in omega arith;
+          (map_none (λ a. a.name.place) (slice_get ds.assocs 200) (few_assocs ds ok)) in omega arith;
     };
     acyclic = λ c. row_low (parent_numbers ds) (downward ds) 0 (ordered ds) c c (omega arith);
     attr_classes = by_number (λ a. a.class < length m.classes) m.attrs
@@ -356,7 +357,7 @@ module _ (ds : Decls) (ok : broken_rule ds ≡ None) where
         (λ i d h. all_map (λ o. ForSome o.result_type (IsTypeOf m)) (operation (type_of ds) i) d.ops
         (all_of (λ x. ForSome (option_map (type_of ds) x.result_type) (IsTypeOf m)) (λ x. result_well x.result_type) d.ops)));
     first_ends = by_number (λ a. a.first.class < length m.classes) m.assocs
-    (all_map (λ a. a.first.class < length m.classes) (association (class_number (ordered ds))) ds.assocs (number_well ends_some (λ a. a.first.class.text)));
+        (all_map (λ a. a.first.class < length m.classes) (association (class_number (ordered ds))) ds.assocs (number_well ends_some (λ a. a.first.class.text)));
     second_ends = by_number (λ a. a.second.class < length m.classes) m.assocs
-    (all_map (λ a. a.second.class < length m.classes) (association (class_number (ordered ds))) ds.assocs (number_well ends_some (λ a. a.second.class.text)));
+        (all_map (λ a. a.second.class < length m.classes) (association (class_number (ordered ds))) ds.assocs (number_well ends_some (λ a. a.second.class.text)));
   }

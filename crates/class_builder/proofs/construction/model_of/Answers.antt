@@ -16,38 +16,38 @@ type_names-requires-clause-enums c = rw c.as_slice.ensures (let h = few_enums c.
 pub type_names-requires-clause-classes : goal.type_names-requires-clause-classes
 type_names-requires-clause-classes c =
     let k : length c.as_slice-by_number.result.now ≤ 200 =
-        few_decls c.args.decls.now c.requires _ _ _ c.as_slice-by_number.ensures.value c.in_ok-by_number.ensures c.in_ok-hierarchy.ensures in
+    few_decls c.args.decls.now c.requires _ _ _ c.as_slice-by_number.ensures.value c.in_ok-by_number.ensures c.in_ok-hierarchy.ensures in
     omega arith
 
 pub class_numbers-requires : goal.class_numbers-requires
 class_numbers-requires c =
     let k : length c.as_slice-by_number.result.now ≤ 200 =
-        few_decls c.args.decls.now c.requires _ _ _ c.as_slice-by_number.ensures.value c.in_ok-by_number.ensures c.in_ok-hierarchy.ensures in
+    few_decls c.args.decls.now c.requires _ _ _ c.as_slice-by_number.ensures.value c.in_ok-by_number.ensures c.in_ok-hierarchy.ensures in
     omega arith
 
 pub stored_attributes-requires : goal.stored_attributes-requires
 stored_attributes-requires c =
     let k : length c.as_slice-by_number.result.now ≤ 200 =
-        few_decls c.args.decls.now c.requires _ _ _ c.as_slice-by_number.ensures.value c.in_ok-by_number.ensures c.in_ok-hierarchy.ensures in
+    few_decls c.args.decls.now c.requires _ _ _ c.as_slice-by_number.ensures.value c.in_ok-by_number.ensures c.in_ok-hierarchy.ensures in
     omega arith
 
 pub derived_attributes-requires : goal.derived_attributes-requires
 derived_attributes-requires c =
     let k : length c.as_slice-by_number.result.now ≤ 200 =
-        few_decls c.args.decls.now c.requires _ _ _ c.as_slice-by_number.ensures.value c.in_ok-by_number.ensures c.in_ok-hierarchy.ensures in
+    few_decls c.args.decls.now c.requires _ _ _ c.as_slice-by_number.ensures.value c.in_ok-by_number.ensures c.in_ok-hierarchy.ensures in
     omega arith
 
 pub operations-requires : goal.operations-requires
 operations-requires c =
     let k : length c.as_slice-by_number.result.now ≤ 200 =
-        few_decls c.args.decls.now c.requires _ _ _ c.as_slice-by_number.ensures.value c.in_ok-by_number.ensures c.in_ok-hierarchy.ensures in
+    few_decls c.args.decls.now c.requires _ _ _ c.as_slice-by_number.ensures.value c.in_ok-by_number.ensures c.in_ok-hierarchy.ensures in
     omega arith
 
 pub classes-requires : goal.classes-requires
 classes-requires c = record {
   small =
       let k : length c.as_slice-by_number.result.now ≤ 200 =
-          few_decls c.args.decls.now c.requires _ _ _ c.as_slice-by_number.ensures.value c.in_ok-by_number.ensures c.in_ok-hierarchy.ensures in
+      few_decls c.args.decls.now c.requires _ _ _ c.as_slice-by_number.ensures.value c.in_ok-by_number.ensures c.in_ok-hierarchy.ensures in
       omega arith;
 }
 
@@ -57,7 +57,7 @@ returns c =
     let decls = c.as_slice-by_number.result.now in
     let number : List ℕ → ℕ = λ t. unwrap_or (get_by_text c.in_ok-numbers.numbers t) 0 in
     let by_number : map (λ (d : Bor ClassDecl). d.now) decls ≡ ordered ds =
-        ap (map (λ (d : Bor ClassDecl). d.now)) c.as_slice-by_number.ensures.value ∙ c.in_ok-by_number.ensures ∙ ap ordered c.in_ok-hierarchy.ensures in
+    ap (map (λ (d : Bor ClassDecl). d.now)) c.as_slice-by_number.ensures.value ∙ c.in_ok-by_number.ensures ∙ ap ordered c.in_ok-hierarchy.ensures in
     assembled ds decls (λ t. get_by_text c.in_ok-names.names t) number _ _ _ _ _ _ _ by_number
     (fun_ext (λ t. c.in_ok-names.ensures t ∙ ap₂ (λ e l. named_in e l t) c.as_slice.ensures by_number))
     (fun_ext (λ t. ap (λ o. unwrap_or o 0) (c.in_ok-numbers.ensures t ∙ position-map (λ d. same_text d.name.text t) (λ d. d.now) 0 decls) ∙ ap

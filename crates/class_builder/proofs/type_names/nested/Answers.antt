@@ -12,9 +12,10 @@ kinds-init c = (rw drop_all refl, omega arith)
 pub kinds-preserved : goal.kinds-preserved
 kinds-preserved c =
     let kinds = c.args.kinds.now in
-    let x = get_or kinds (c.kinds.i - 1) Set in
-    (ap (T.Coll x) (c.in_ok-new.ensures ∙ c.kinds.invariant.0)
-    ∙ ap (λ l. nested l c.args.of_type)
-    (sym (drop_before kinds c.kinds.i x c.kinds-test.true c.kinds.invariant.1
-    (default_alike kinds (c.kinds.i - 1) Set x (let t = c.kinds-test.true in let u = c.kinds.invariant.1 in omega arith)))),
-    let u = c.kinds.invariant.1 in omega arith)
+    let x = get_or kinds (c.kinds.i - 1) Set in (
+      ap (T.Coll x) (c.in_ok-new.ensures ∙ c.kinds.invariant.0)
+          ∙ ap (λ l. nested l c.args.of_type)
+          (sym (drop_before kinds c.kinds.i x c.kinds-test.true c.kinds.invariant.1
+          (default_alike kinds (c.kinds.i - 1) Set x (let t = c.kinds-test.true in let u = c.kinds.invariant.1 in omega arith)))),
+      let u = c.kinds.invariant.1 in omega arith,
+    )
