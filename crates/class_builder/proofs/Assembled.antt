@@ -41,11 +41,13 @@ same_parts n n' e e' k k' a a' d d' o o' s s' p1 p2 p3 p4 p5 p6 p7 =
 pub assembled : (ds : Decls) (decls : List (Bor ClassDecl)) (named : List ℕ → Option OclType) (number : List ℕ → ℕ)
     (n : List ℕ) (e : List Enumeration) (k : List Class) (a d : List Attribute) (o : List Operation) (s : List Association) →
     map (λ c. c.now) decls ≡ ordered ds → named ≡ named_in ds.enums (ordered ds) → number ≡ class_number (ordered ds) →
-    IsMade ds decls (type_by named) number n e k a d o s → record { name = n; enums = e; classes = k; attrs = a; derived = d; ops = o; assocs = s } ≡ model_of ds
+    IsMade ds decls (type_by named) number n e k a d o s → record { name = n; enums = e; classes = k; attrs = a; derived = d; ops = o; assocs = s }
+    ≡ model_of ds
 assembled ds decls named number n e k a d o s by_number names numbers made =
     let now : List ClassDecl = map (λ c. c.now) decls in
     same_parts n ds.name.text e (map enumeration ds.enums) k (map (λ p. class_by (parent_numbers ds) p.0 p.1) (enumerate_from 0 now))
-    a (numbered (stored_in (type_by named)) now) d (numbered (derived_in (type_by named)) now) o (numbered (operations_in (type_by named)) now) s (map (association number) ds.assocs)
+    a (numbered (stored_in (type_by named)) now) d (numbered (derived_in (type_by named)) now) o (numbered (operations_in (type_by named)) now) s
+    (map (association number) ds.assocs)
     made.name made.enums (made.classes ∙ each_map (λ p. class_by (parent_numbers ds) p.0 p.1) (λ c. c.now) 0 decls)
     (made.attrs ∙ numbered-map (stored_in (type_by named)) (λ c. c.now) decls)
     (made.derived ∙ numbered-map (derived_in (type_by named)) (λ c. c.now) decls)

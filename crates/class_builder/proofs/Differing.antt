@@ -46,7 +46,8 @@ key_cmp a b = entry_cmp (as_entry a) (as_entry b)
 abbrev same_key : Key → Key → Bool
 same_key a b = is_same_name (as_entry a) (as_entry b)
 
-key_cmp_is : (a b : Key) → key_cmp a b ≡ ordering_then (nat_cmp a.0 b.0) (ordering_then (slice_cmp nat_cmp a.1.0 b.1.0) (ordering_then (nat_cmp a.1.1.line b.1.1.line) (nat_cmp a.1.1.col b.1.1.col)))
+key_cmp_is : (a b : Key) → key_cmp a b ≡ ordering_then (nat_cmp a.0 b.0)
+    (ordering_then (slice_cmp nat_cmp a.1.0 b.1.0) (ordering_then (nat_cmp a.1.1.line b.1.1.line) (nat_cmp a.1.1.col b.1.1.col)))
 key_cmp_is a b = refl
 
 same_key_is : (a b : Key) → same_key a b ≡ (nat_eq a.0 b.0 && same_text a.1.0 b.1.0)
@@ -112,9 +113,12 @@ sandwich : (a b y : Key) → is_gt (key_cmp a b) ≡ false → is_gt (key_cmp b 
 sandwich a b y e f g =
     let i : a.0 ≡ y.0 = number_is a.0 y.0 (first_of (nat_eq a.0 y.0) (same_text a.1.0 y.1.0) g) in
     let t : a.1.0 ≡ y.1.0 = same_is a.1.0 y.1.0 (second_of (nat_eq a.0 y.0) (same_text a.1.0 y.1.0) g) in
-    between a.0 b.0 a.1.0 b.1.0 (ordering_then (nat_cmp a.1.1.line b.1.1.line) (nat_cmp a.1.1.col b.1.1.col)) (ordering_then (nat_cmp b.1.1.line y.1.1.line) (nat_cmp b.1.1.col y.1.1.col)) e
-    (subst (λ n. is_gt (ordering_then (nat_cmp b.0 n) (ordering_then (slice_cmp nat_cmp b.1.0 a.1.0) (ordering_then (nat_cmp b.1.1.line y.1.1.line) (nat_cmp b.1.1.col y.1.1.col)))) ≡ false) (sym i)
-    (subst (λ x. is_gt (ordering_then (nat_cmp b.0 y.0) (ordering_then (slice_cmp nat_cmp b.1.0 x) (ordering_then (nat_cmp b.1.1.line y.1.1.line) (nat_cmp b.1.1.col y.1.1.col)))) ≡ false) (sym t) f))
+    between a.0 b.0 a.1.0 b.1.0 (ordering_then (nat_cmp a.1.1.line b.1.1.line) (nat_cmp a.1.1.col b.1.1.col))
+    (ordering_then (nat_cmp b.1.1.line y.1.1.line) (nat_cmp b.1.1.col y.1.1.col)) e
+    (subst (λ n. is_gt (ordering_then (nat_cmp b.0 n) (ordering_then (slice_cmp nat_cmp b.1.0 a.1.0)
+    (ordering_then (nat_cmp b.1.1.line y.1.1.line) (nat_cmp b.1.1.col y.1.1.col)))) ≡ false) (sym i)
+    (subst (λ x. is_gt (ordering_then (nat_cmp b.0 y.0)
+    (ordering_then (slice_cmp nat_cmp b.1.0 x) (ordering_then (nat_cmp b.1.1.line y.1.1.line) (nat_cmp b.1.1.col y.1.1.col)))) ≡ false) (sym t) f))
 
 map_choice : (b : Bool) (xs ys : List Key) → cond b (map as_entry xs) (map as_entry ys) ≡ map as_entry (cond b xs ys)
 map_choice true xs ys = refl
@@ -137,7 +141,8 @@ apart_by false p rest e = (refl, e)
 not_again : (a b : Key) (rest : List Key) → again (map as_entry (a ∷ b ∷ rest)) ≡ [] → (same_key a b ≡ false) × (again (map as_entry (b ∷ rest)) ≡ [])
 not_again a b rest e = apart_by (same_key a b) b.1.1 (again (map as_entry (b ∷ rest))) e
 
-all_not : (P : Key → Type 0) (f : Key → Bool) → ((y : Key) → P y → f y ≡ true → ⊥) → (ys : List Key) → AllByRecursion P ys → AllByRecursion (λ y. f y ≡ false) ys
+all_not : (P : Key → Type 0) (f : Key → Bool) → ((y : Key) → P y → f y ≡ true → ⊥) → (ys : List Key) → AllByRecursion P ys → AllByRecursion
+    (λ y. f y ≡ false) ys
 all_not P f h [] g = tt
 all_not P f h (y ∷ ys) g = (not_true (f y) (h y g.0), all_not P f h ys g.1)
 
@@ -202,7 +207,8 @@ once k (a ∷ rest) h = once_by (same_key k a) (count (same_key k) rest) (once k
 abbrev keys_from : ℕ → List ClassDecl → List Key
 keys_from n classes = flat_map (λ p. map (λ op. (p.0, (op.name.text, op.name.place))) p.1.ops) (enumerate_from n classes)
 
-map_join : {A B C : Type 0} (f : B → C) (g : A → List B) (h : A → List C) → ((x : A) → map f (g x) ≡ h x) → (xs : List A) → map f (flat_map g xs) ≡ flat_map h xs
+map_join : {A B C : Type 0} (f : B → C) (g : A → List B) (h : A → List C) → ((x : A) → map f (g x) ≡ h x) → (xs : List A) → map f (flat_map g xs)
+    ≡ flat_map h xs
 map_join f g h e [] = refl
 map_join f g h e (x ∷ xs) = map-append f (g x) (flat_map g xs) ∙ ap₂ (λ a b. a ++ b) (e x) (map_join f g h e xs)
 
@@ -234,8 +240,10 @@ own_count t q n (c ∷ cs) zero d e =
     let a = count-append own (map (λ op. (n, (op.name.text, op.name.place))) c.ops) (keys_from (n + 1) cs) in
     let b : count (same_text t) (map (λ op. op.name.text) c.ops) ≡ count own (map (λ op. (n, (op.name.text, op.name.place))) c.ops) =
     sym (count-map (same_text t) (λ op. same_text t op.name.text) (λ op. op.name.text) (λ op. refl) c.ops)
-    ∙ count-map own (λ op. same_text t op.name.text) (λ op. (n, (op.name.text, op.name.place))) (λ op. ap (λ x. x && same_text t op.name.text) (sym (ap (λ j. nat_eq j n) z ∙ self_is n))) c.ops in
-    let f : count (same_text t) (map (λ op. op.name.text) c.ops) ≡ count (same_text t) (map (λ op. op.name.text) d.ops) = ap (λ (x : ClassDecl). count (same_text t) (map (λ op. op.name.text) x.ops)) k in
+    ∙ count-map own (λ op. same_text t op.name.text) (λ op. (n, (op.name.text, op.name.place)))
+    (λ op. ap (λ x. x && same_text t op.name.text) (sym (ap (λ j. nat_eq j n) z ∙ self_is n))) c.ops in
+    let f : count (same_text t) (map (λ op. op.name.text) c.ops) ≡ count (same_text t) (map (λ op. op.name.text) d.ops) = ap
+    (λ (x : ClassDecl). count (same_text t) (map (λ op. op.name.text) x.ops)) k in
     omega arith
 own_count t q n (c ∷ cs) (suc i) d e =
     let z : n + suc i ≡ (n + 1) + i = omega arith in
@@ -252,11 +260,13 @@ or_later : (a b : Bool) → b ≡ true → (a || b) ≡ true
 or_later true b e = refl
 or_later false b e = e
 
-removed_by : (b : Bool) (x : List ℕ) (xs rest : List (List ℕ)) → (b ≡ false → length xs ≡ suc (length rest)) → suc (length xs) ≡ suc (length (cond b xs (x ∷ rest)))
+removed_by : (b : Bool) (x : List ℕ) (xs rest : List (List ℕ)) → (b ≡ false → length xs ≡ suc (length rest)) → suc (length xs) ≡ suc
+    (length (cond b xs (x ∷ rest)))
 removed_by true x xs rest h = refl
 removed_by false x xs rest h = ap suc (h refl)
 
-kept_by : (b : Bool) (x : List ℕ) (xs rest : List (List ℕ)) (u : List ℕ) → (b ≡ true → has_text xs u ≡ true) → has_text (x ∷ rest) u ≡ true → has_text (cond b xs (x ∷ rest)) u ≡ true
+kept_by : (b : Bool) (x : List ℕ) (xs rest : List (List ℕ)) (u : List ℕ) → (b ≡ true → has_text xs u ≡ true) → has_text (x ∷ rest) u ≡ true → has_text
+    (cond b xs (x ∷ rest)) u ≡ true
 kept_by true x xs rest u h g = h refl
 kept_by false x xs rest u h g = g
 
@@ -269,7 +279,8 @@ kept_text t u [] unlike h = h
 kept_text t u (x ∷ xs) unlike h =
     kept_by (same_text x t) x xs (remove_one t xs) u
     (λ e. sym (ap (λ b. b || has_text xs u) (ap (λ y. same_text y u) (same_is x t e) ∙ unlike)) ∙ h)
-    (or_cases (same_text x u) (has_text xs u) (λ e. ap (λ b. b || has_text (remove_one t xs) u) e) (λ e. or_later (same_text x u) (has_text (remove_one t xs) u) (kept_text t u xs unlike e)) h)
+    (or_cases (same_text x u) (has_text xs u) (λ e. ap (λ b. b || has_text (remove_one t xs) u) e)
+    (λ e. or_later (same_text x u) (has_text (remove_one t xs) u) (kept_text t u xs unlike e)) h)
 
 one_if : (b : Bool) → b ≡ true → cond {A = ℕ} b 1 0 ≡ 1
 one_if true e = refl
@@ -288,7 +299,8 @@ absent w t ws e h none =
     let c = counted w ws k in
     omega arith
 
-pigeon : (ws xs : List (List ℕ)) → ((t : List ℕ) → count (same_text t) ws ≤ 1) → ((t : List ℕ) → has_text ws t ≡ true → has_text xs t ≡ true) → length ws ≤ length xs
+pigeon : (ws xs : List (List ℕ)) → ((t : List ℕ) → count (same_text t) ws ≤ 1) → ((t : List ℕ) → has_text ws t ≡ true → has_text xs t ≡ true) →
+    length ws ≤ length xs
 pigeon [] xs one within = omega arith
 pigeon (w ∷ ws) xs one within =
     let there : has_text xs w ≡ true = within w (ap (λ b. b || has_text ws w) (text_self w)) in
@@ -301,18 +313,21 @@ pigeon (w ∷ ws) xs one within =
 has-append : (xs ys : List (List ℕ)) (t : List ℕ) → has_text (xs ++ ys) t ≡ (has_text xs t || has_text ys t)
 has-append xs ys t = list_any-append (λ y. same_text y t) xs ys
 
-here_has : (f : ClassDecl → List (List ℕ)) (d : ClassDecl) (o : Option ClassDecl) (xs : List ClassDecl) (t : List ℕ) → o ≡ Some d → has_text (f d) t ≡ true → has_text (flat_map f (cons_option o xs)) t ≡ true
+here_has : (f : ClassDecl → List (List ℕ)) (d : ClassDecl) (o : Option ClassDecl) (xs : List ClassDecl) (t : List ℕ) → o ≡ Some d → has_text (f d) t ≡ true →
+    has_text (flat_map f (cons_option o xs)) t ≡ true
 here_has f d None xs t e h = cc
 here_has f d (Some x) xs t e h =
     let k : x ≡ d = cc in
     has-append (f x) (flat_map f xs) t ∙ ap (λ b. b || has_text (flat_map f xs) t) (ap (λ y. has_text (f y) t) k ∙ h)
 
-later_has : (f : ClassDecl → List (List ℕ)) (o : Option ClassDecl) (xs : List ClassDecl) (t : List ℕ) → has_text (flat_map f xs) t ≡ true → has_text (flat_map f (cons_option o xs)) t ≡ true
+later_has : (f : ClassDecl → List (List ℕ)) (o : Option ClassDecl) (xs : List ClassDecl) (t : List ℕ) → has_text (flat_map f xs) t ≡ true → has_text
+    (flat_map f (cons_option o xs)) t ≡ true
 later_has f None xs t h = h
 later_has f (Some x) xs t h = has-append (f x) (flat_map f xs) t ∙ or_later (has_text (f x) t) (has_text (flat_map f xs) t) h
 
 -- the texts that a class declares are among those of all its classes
-joined_has : (g : ℕ → Option ClassDecl) (f : ClassDecl → List (List ℕ)) (ns : List ℕ) (c : ℕ) (d : ClassDecl) (t : List ℕ) → is_among ns c ≡ true → g c ≡ Some d → has_text (f d) t ≡ true →
+joined_has : (g : ℕ → Option ClassDecl) (f : ClassDecl → List (List ℕ)) (ns : List ℕ) (c : ℕ) (d : ClassDecl) (t : List ℕ) → is_among ns c ≡ true → g c
+    ≡ Some d → has_text (f d) t ≡ true →
     has_text (flat_map f (filter_map g ns)) t ≡ true
 joined_has g f [] c d t e h i = absurd (true≢false (sym e))
 joined_has g f (n ∷ ns) c d t e h i =
@@ -332,7 +347,8 @@ module _ (ds : Decls) (ok : broken_rule ds ≡ None) where
 
   key_once : (k : Key) → count (same_key k) (keys_from 0 ds.classes) ≤ 1
   key_once k =
-      let a = once k (bag_of key_cmp (keys_from 0 ds.classes)) (differ (bag_of key_cmp (keys_from 0 ds.classes)) (Ascends-bag_of key_cmp key_total (keys_from 0 ds.classes)) no_twice) in
+      let a = once k (bag_of key_cmp (keys_from 0 ds.classes))
+      (differ (bag_of key_cmp (keys_from 0 ds.classes)) (Ascends-bag_of key_cmp key_total (keys_from 0 ds.classes)) no_twice) in
       let b = count-bag (same_key k) (keys_from 0 ds.classes) in
       omega arith
 
@@ -341,7 +357,8 @@ module _ (ds : Decls) (ok : broken_rule ds ≡ None) where
       let f : ClassDecl → List (List ℕ) = λ c. map (λ op. op.name.text) c.ops in
       let z : 0 + i ≡ i = omega arith in
       let p = pigeon (f d) (ops_of (above ds i))
-      (λ t. let a = own_count t (record { line = 0; col = 0 }) 0 ds.classes i d is in let b = key_once (0 + i, (t, record { line = 0; col = 0 })) in omega arith)
+      (λ t. let a = own_count t (record { line = 0; col = 0 }) 0 ds.classes i d is in let b = key_once (0 + i, (t, record { line = 0; col = 0 })) in
+      omega arith)
       (λ t h. has_text-set_of (flat_map f (above ds i)) (ops_of (above ds i)) t refl
       ∙ joined_has (class_numbered ds) f (ancestor_numbers ds i) (stands ds ok i d is).at d t (there ds ok i d is) (numbered_class ds ok i d is) h) in
       let l = length-map d.ops (λ op. op.name.text) in

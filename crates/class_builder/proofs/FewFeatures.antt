@@ -18,7 +18,8 @@ use Rattle.class_rules.proofs.Ordered.{downward}
 use Rattle.class_model.proofs.Rows.{inherits_self}
 use Rattle.class_builder.proofs.Unbroken.{acyclic, few_features, none_left, none_right}
 
-numbered_none : {A B : Type 0} (f : ℕ → A → Option B) (n : ℕ) (xs : List A) → first_numbered f n xs ≡ None → (i : ℕ) (x : A) → slice_get xs i ≡ Some x → f (n + i) x ≡ None
+numbered_none : {A B : Type 0} (f : ℕ → A → Option B) (n : ℕ) (xs : List A) → first_numbered f n xs ≡ None → (i : ℕ) (x : A) → slice_get xs i ≡ Some x → f
+    (n + i) x ≡ None
 numbered_none f n [] e i x h = cc
 numbered_none f n (y ∷ ys) e zero x h =
     let z : n + 0 ≡ n = omega arith in
@@ -61,7 +62,8 @@ stands_at i n (x ∷ xs) e =
 
 here_long : {A B : Type 0} (f : A → List B) (d : A) (o : Option A) (xs : List A) → o ≡ Some d → length (f d) ≤ length (flat_map f (cons_option o xs))
 here_long f d None xs e = cc
-here_long f d (Some x) xs e = let k : x ≡ d = cc in let l = length-append (f x) (flat_map f xs) in let j : length (f x) ≡ length (f d) = ap (λ y. length (f y)) k in omega arith
+here_long f d (Some x) xs e = let k : x ≡ d = cc in let l = length-append (f x) (flat_map f xs) in let j : length (f x) ≡ length (f d) = ap
+    (λ y. length (f y)) k in omega arith
 
 later_long : {A B : Type 0} (f : A → List B) (o : Option A) (xs : List A) (n : ℕ) → n ≤ length (flat_map f xs) → n ≤ length (flat_map f (cons_option o xs))
 later_long f None xs n h = h

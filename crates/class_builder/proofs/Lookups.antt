@@ -25,7 +25,8 @@ or_both None p q = refl
 or_both (Some x) p q = refl
 
 -- one name more, after what names stood for before
-pub named_more : {A V : Type 0} (test : List ℕ → Bool) (before : Option V) (f : ℕ × A → List ℕ × V) (xs : List A) (i : ℕ) (x : A) → i < length xs → x ≡ get_or xs i x →
+pub named_more : {A V : Type 0} (test : List ℕ → Bool) (before : Option V) (f : ℕ × A → List ℕ × V) (xs : List A) (i : ℕ) (x : A) → i < length xs → x
+    ≡ get_or xs i x →
     option_or (option_or before (lookup test (map f (enumerate_from 0 (take i xs))))) (cond (test (f (i, x)).0) (Some (f (i, x)).1) None)
     ≡ option_or before (lookup test (map f (enumerate_from 0 (take (i + 1) xs))))
 named_more test before f xs i x h e =
@@ -34,7 +35,8 @@ named_more test before f xs i x h e =
     (sym (lookup-append test (map f (enumerate_from 0 (take i xs))) (f (i, x) ∷ [])) ∙ ap (lookup test) (sym (each_more f xs i x h e)))
 
 chain : {V : Type 0} (o : Option V) (b1 b2 b3 b4 b5 : Bool) (v1 v2 v3 v4 v5 : V) →
-    option_or (option_or (option_or (option_or (option_or o (cond b1 (Some v1) None)) (cond b2 (Some v2) None)) (cond b3 (Some v3) None)) (cond b4 (Some v4) None)) (cond b5 (Some v5) None)
+    option_or (option_or (option_or (option_or (option_or o (cond b1 (Some v1) None)) (cond b2 (Some v2) None)) (cond b3 (Some v3) None))
+    (cond b4 (Some v4) None)) (cond b5 (Some v5) None)
     ≡ option_or o (cond b1 (Some v1) (cond b2 (Some v2) (cond b3 (Some v3) (cond b4 (Some v4) (cond b5 (Some v5) None)))))
 chain (Some x) b1 b2 b3 b4 b5 v1 v2 v3 v4 v5 = refl
 chain None true b2 b3 b4 b5 v1 v2 v3 v4 v5 = refl
@@ -46,10 +48,12 @@ chain None false false false false b5 v1 v2 v3 v4 v5 = refl
 -- the plain types, one after another
 pub plain_is : (o : Option OclType) (t : List ℕ) →
     option_or (option_or (option_or (option_or (option_or o
-    (cond (same_text (codes "Boolean") t) (Some T.Bool) None)) (cond (same_text (codes "Integer") t) (Some T.Int) None)) (cond (same_text (codes "String") t) (Some T.Str) None))
+    (cond (same_text (codes "Boolean") t) (Some T.Bool) None)) (cond (same_text (codes "Integer") t) (Some T.Int) None))
+    (cond (same_text (codes "String") t) (Some T.Str) None))
     (cond (same_text (codes "OclAny") t) (Some T.Any) None)) (cond (same_text (codes "OclVoid") t) (Some T.Void) None)
     ≡ option_or o (lookup (λ name. same_text name t) plain_names)
-plain_is o t = chain o (same_text (codes "Boolean") t) (same_text (codes "Integer") t) (same_text (codes "String") t) (same_text (codes "OclAny") t) (same_text (codes "OclVoid") t) T.Bool T.Int T.Str T.Any T.Void
+plain_is o t = chain o (same_text (codes "Boolean") t) (same_text (codes "Integer") t) (same_text (codes "String") t) (same_text (codes "OclAny") t)
+    (same_text (codes "OclVoid") t) T.Bool T.Int T.Str T.Any T.Void
 
 pub empty_none : {A V : Type 0} (m : BTreeMap (String A) V) → IsEmpty m → (t : List ℕ) → get_by_text m t ≡ None
 empty_none m e t = ap (lookup (is_at (λ k. slice_cmp nat_cmp t (string_bytes k)))) e

@@ -78,7 +78,8 @@ all_right P [] ys h = h
 all_right P (x ∷ xs) ys h = all_right P xs ys h.1
 
 -- of what is made of each element and its number
-all_from : {A B : Type 0} (P : B → Type 0) (f : ℕ → A → List B) (n : ℕ) (xs : List A) (m : ℕ) → m ≡ n + length xs → ((i : ℕ) (x : A) → i < m → AllByRecursion P (f i x)) →
+all_from : {A B : Type 0} (P : B → Type 0) (f : ℕ → A → List B) (n : ℕ) (xs : List A) (m : ℕ) → m ≡ n + length xs →
+    ((i : ℕ) (x : A) → i < m → AllByRecursion P (f i x)) →
     AllByRecursion P (flat_map (λ p. f p.0 p.1) (enumerate_from n xs))
 all_from P f n [] m e h = tt
 all_from P f n (x ∷ xs) m e h =
@@ -88,7 +89,8 @@ pub all_numbered_parts : {A B : Type 0} (P : B → Type 0) (f : ℕ → A → Li
     AllByRecursion P (flat_map (λ p. f p.0 p.1) (enumerate_from 0 xs))
 all_numbered_parts P f xs h = all_from P f 0 xs (length xs) (omega arith) h
 
-each_from : {A B : Type 0} (P : B → Type 0) (f : ℕ × A → B) (n : ℕ) (xs : List A) (m : ℕ) → m ≡ n + length xs → ((i : ℕ) (x : A) → i < m → P (f (i, x))) → AllByRecursion P (map f (enumerate_from n xs))
+each_from : {A B : Type 0} (P : B → Type 0) (f : ℕ × A → B) (n : ℕ) (xs : List A) (m : ℕ) → m ≡ n + length xs → ((i : ℕ) (x : A) → i < m → P (f (i, x))) →
+    AllByRecursion P (map f (enumerate_from n xs))
 each_from P f n [] m e h = tt
 each_from P f n (x ∷ xs) m e h = (h n x (omega arith), each_from P f (n + 1) xs m (omega arith) h)
 
@@ -112,7 +114,8 @@ more_found : {A : Type 0} (o : Option A) (xs : List A) (n : ℕ) → (x : A) × 
 more_found None xs n h e = cc (h.1)
 more_found (Some x) xs n h e = ap suc e
 
-found_more : {A : Type 0} (P : A → Type 0) (o : Option A) (xs : List A) → ((x : A) → o ≡ Some x → P x) → AllByRecursion P xs → AllByRecursion P (cons_option o xs)
+found_more : {A : Type 0} (P : A → Type 0) (o : Option A) (xs : List A) → ((x : A) → o ≡ Some x → P x) → AllByRecursion P xs → AllByRecursion P
+    (cons_option o xs)
 found_more P None xs h g = g
 found_more P (Some x) xs h g = (h x refl, g)
 
@@ -128,7 +131,8 @@ chosen_all : {A : Type 0} (P : A → Type 0) (b : Bool) (x : A) (o : Option A) (
 chosen_all P true x o d h g = h
 chosen_all P false x o d h g = g
 
-known_more : (f : List ℕ → Bool) (n : Name) (ns : List Name) (b : Bool) → f n.text ≡ b → map (λ n. n.place) (cond (not b) (n ∷ filter (λ n. not (f n.text)) ns) (filter (λ n. not (f n.text)) ns)) ≡ [] →
+known_more : (f : List ℕ → Bool) (n : Name) (ns : List Name) (b : Bool) → f n.text ≡ b → map (λ n. n.place)
+    (cond (not b) (n ∷ filter (λ n. not (f n.text)) ns) (filter (λ n. not (f n.text)) ns)) ≡ [] →
     (places_outside f ns ≡ [] → AllByRecursion (λ n. f n.text ≡ true) ns) → (f n.text ≡ true) × AllByRecursion (λ n. f n.text ≡ true) ns
 known_more f n ns true e h rest = (e, rest h)
 known_more f n ns false e h rest = cc
@@ -145,19 +149,23 @@ found_length : {A : Type 0} (cs : List A) (ns : List ℕ) → AllByRecursion (λ
 found_length cs [] h = refl
 found_length cs (n ∷ ns) h = more_found (slice_get cs n) (filter_map (slice_get cs) ns) (length ns) (some_at cs n h.0) (found_length cs ns h.1)
 
-found_all : {A : Type 0} (P : A → Type 0) (cs : List A) → ((i : ℕ) (x : A) → slice_get cs i ≡ Some x → P x) → (ns : List ℕ) → AllByRecursion P (filter_map (slice_get cs) ns)
+found_all : {A : Type 0} (P : A → Type 0) (cs : List A) → ((i : ℕ) (x : A) → slice_get cs i ≡ Some x → P x) → (ns : List ℕ) → AllByRecursion P
+    (filter_map (slice_get cs) ns)
 found_all P cs h [] = tt
 found_all P cs h (n ∷ ns) = found_more P (slice_get cs n) (filter_map (slice_get cs) ns) (h n) (found_all P cs h ns)
 
 position_below : {A : Type 0} (test : A → Bool) (n : ℕ) (xs : List A) (q : ℕ) → position_from test n xs ≡ Some q → q < n + length xs
 position_below test n [] q e = cc
-position_below test n (x ∷ xs) q e = found_below (test x) n q (length xs) (position_from test (n + 1) xs) e (λ f. let h = position_below test (n + 1) xs q f in omega arith)
+position_below test n (x ∷ xs) q e = found_below (test x) n q (length xs) (position_from test (n + 1) xs) e
+    (λ f. let h = position_below test (n + 1) xs q f in omega arith)
 
 number_below : (classes : List ClassDecl) (text : List ℕ) → 0 < length classes → class_number classes text < length classes
-number_below classes text h = below_or (position_from (λ d. same_text d.name.text text) 0 classes) (length classes) h (λ q e. let k = position_below (λ d. same_text d.name.text text) 0 classes q e in omega arith)
+number_below classes text h = below_or (position_from (λ d. same_text d.name.text text) 0 classes) (length classes) h
+    (λ q e. let k = position_below (λ d. same_text d.name.text text) 0 classes q e in omega arith)
 
 -- the names of types stand for types of the model
-lookup_all : {A : Type 0} (P : A → Type 0) (test : List ℕ → Bool) (d : A) → P d → (xs : List (List ℕ × A)) → AllByRecursion (λ x. P x.1) xs → P (unwrap_or (lookup test xs) d)
+lookup_all : {A : Type 0} (P : A → Type 0) (test : List ℕ → Bool) (d : A) → P d → (xs : List (List ℕ × A)) → AllByRecursion (λ x. P x.1) xs → P
+    (unwrap_or (lookup test xs) d)
 lookup_all P test d p [] h = p
 lookup_all P test d p (x ∷ xs) h = chosen_all P (test x.0) x.1 (lookup test xs) d h.0 (lookup_all P test d p xs h.1)
 
@@ -165,10 +173,12 @@ nested_among : (c e : ℕ) (kinds : List Kind) (t : OclType) → IsTypeAmong c e
 nested_among c e [] t h = h
 nested_among c e (k ∷ ks) t h = subst (λ X. X) (sym (coll_among c e k (nested ks t))) (nested_among c e ks t h)
 
-names_among : (enums : List EnumDecl) (classes : List ClassDecl) → AllByRecursion (λ x. IsTypeAmong (length classes) (length enums) x.1) (names_in enums classes)
+names_among : (enums : List EnumDecl) (classes : List ClassDecl) → AllByRecursion (λ x. IsTypeAmong (length classes) (length enums) x.1)
+    (names_in enums classes)
 names_among enums classes =
     let P : List ℕ × OclType → Type 0 = λ x. IsTypeAmong (length classes) (length enums) x.1 in
-    all_append P (plain_names ++ map (λ p. (p.1.name.text, T.Enum p.0)) (enumerate_from 0 enums)) (map (λ p. (p.1.name.text, T.Class p.0)) (enumerate_from 0 classes))
+    all_append P (plain_names ++ map (λ p. (p.1.name.text, T.Enum p.0)) (enumerate_from 0 enums))
+    (map (λ p. (p.1.name.text, T.Class p.0)) (enumerate_from 0 classes))
     (all_append P plain_names (map (λ p. (p.1.name.text, T.Enum p.0)) (enumerate_from 0 enums)) (tt, (tt, (tt, (tt, (tt, tt)))))
     (each_from P (λ p. (p.1.name.text, T.Enum p.0)) 0 enums (length enums) (omega arith) (λ i x h. h)))
     (each_from P (λ p. (p.1.name.text, T.Class p.0)) 0 classes (length classes) (omega arith) (λ i x h. h))
@@ -176,7 +186,8 @@ names_among enums classes =
 type_among : (ds : Decls) (t : TypeDecl) → IsTypeAmong (length (ordered ds)) (length ds.enums) (type_of ds t)
 type_among ds t =
     nested_among (length (ordered ds)) (length ds.enums) t.kinds (unwrap_or (named_in ds.enums (ordered ds) t.name.text) T.Any)
-    (lookup_all (IsTypeAmong (length (ordered ds)) (length ds.enums)) (λ name. same_text name t.name.text) T.Any tt (names_in ds.enums (ordered ds)) (names_among ds.enums (ordered ds)))
+    (lookup_all (IsTypeAmong (length (ordered ds)) (length ds.enums)) (λ name. same_text name t.name.text) T.Any tt (names_in ds.enums (ordered ds))
+    (names_among ds.enums (ordered ds)))
 
 -- each class has the parents that it has by number
 row_low : (pn : List (List ℕ)) → IsDownward pn → (n : ℕ) (xs : List ClassDecl) (c k : ℕ) → k ≡ n + c →
@@ -201,7 +212,8 @@ some_class : (text : List ℕ) (classes : List ClassDecl) → list_any (λ c. sa
 some_class text [] e = absurd (true≢false (sym e))
 some_class text (c ∷ cs) e = omega arith
 
-ends_known : (f : List ℕ → Bool) (assocs : List AssocDecl) → AllByRecursion (λ n. f n.text ≡ true) (flat_map (λ a. a.first.class ∷ a.second.class ∷ []) assocs) →
+ends_known : (f : List ℕ → Bool) (assocs : List AssocDecl) → AllByRecursion (λ n. f n.text ≡ true)
+    (flat_map (λ a. a.first.class ∷ a.second.class ∷ []) assocs) →
     AllByRecursion (λ a. f a.first.class.text ≡ true) assocs
 ends_known f [] h = tt
 ends_known f (a ∷ rest) h = (h.0, ends_known f rest h.1.1)
@@ -213,7 +225,9 @@ module _ (ds : Decls) (ok : broken_rule ds ≡ None) where
   -- each class has a number
   pub as_many : length (ordered ds) ≡ length ds.classes
   as_many =
-      found_length ds.classes (numbering (parent_places ds)) (subst (λ n. AllByRecursion (λ i. i < n) (numbering (parent_places ds))) places_length (recursion_from_All (λ i. i < length (parent_places ds)) (numbering (parent_places ds)) (numbers_low (parent_places ds))))
+      found_length ds.classes (numbering (parent_places ds))
+      (subst (λ n. AllByRecursion (λ i. i < n) (numbering (parent_places ds))) places_length
+      (recursion_from_All (λ i. i < length (parent_places ds)) (numbering (parent_places ds)) (numbers_low (parent_places ds))))
       ∙ (all_numbered ds (acyclic ds ok)).as_many
 
   pub few : length (ordered ds) ≤ 200
@@ -231,7 +245,8 @@ module _ (ds : Decls) (ok : broken_rule ds ≡ None) where
   literals_split =
       let e = few_literals ds ok in (
         none_left (first_given excess_literal (take 200 ds.enums)) (option_map (λ e. e.name.place) (slice_get ds.enums 200)) e,
-        map_none (λ e. e.name.place) (slice_get ds.enums 200) (none_right (first_given excess_literal (take 200 ds.enums)) (option_map (λ e. e.name.place) (slice_get ds.enums 200)) e),
+        map_none (λ e. e.name.place) (slice_get ds.enums 200)
+            (none_right (first_given excess_literal (take 200 ds.enums)) (option_map (λ e. e.name.place) (slice_get ds.enums 200)) e),
       )
 
   pub few_enums : length ds.enums ≤ 200
@@ -239,7 +254,8 @@ module _ (ds : Decls) (ok : broken_rule ds ≡ None) where
 
   few_in_enums : AllByRecursion (λ e. length e.literals ≤ 1000) ds.enums
   few_in_enums =
-      all_with (λ e. excess_literal e ≡ None) (λ e. length e.literals ≤ 1000) (λ e h. short e.literals 1000 (map_none (λ n. n.place) (slice_get e.literals 1000) h)) ds.enums
+      all_with (λ e. excess_literal e ≡ None) (λ e. length e.literals ≤ 1000)
+      (λ e h. short e.literals 1000 (map_none (λ n. n.place) (slice_get e.literals 1000) h)) ds.enums
       (each_given excess_literal ds.enums (subst (λ l. first_given excess_literal l ≡ None) (all_taken ds.enums 200 few_enums) literals_split.0))
 
   ends_some : AllByRecursion (λ a. 0 < length (ordered ds)) ds.assocs
@@ -251,8 +267,10 @@ module _ (ds : Decls) (ok : broken_rule ds ≡ None) where
       let ends = flat_map (λ a. a.first.class ∷ a.second.class ∷ []) ds.assocs in
       let conds = map (λ c. c.class) ds.conds in
       let e = as_many in
-      all_with (λ a. is_class ds a.first.class.text ≡ true) (λ a. 0 < length (ordered ds)) (λ a h. let k = some_class a.first.class.text ds.classes h in omega arith) ds.assocs
-      (ends_known (is_class ds) ds.assocs (all_right (λ n. is_class ds n.text ≡ true) parents ends (all_left (λ n. is_class ds n.text ≡ true) (parents ++ ends) conds refs)))
+      all_with (λ a. is_class ds a.first.class.text ≡ true) (λ a. 0 < length (ordered ds))
+      (λ a h. let k = some_class a.first.class.text ds.classes h in omega arith) ds.assocs
+      (ends_known (is_class ds) ds.assocs (all_right (λ n. is_class ds n.text ≡ true) parents ends
+      (all_left (λ n. is_class ds n.text ≡ true) (parents ++ ends) conds refs)))
 
   -- what each class declares is little
   pub parts_below : {B : Type 0} (f : ℕ → ClassDecl → List B) → ((i n : ℕ) (d : ClassDecl) → slice_get ds.classes i ≡ Some d → length (f n d) ≤ 64) →
@@ -273,7 +291,8 @@ module _ (ds : Decls) (ok : broken_rule ds ≡ None) where
   enum_count = length-map ds.enums enumeration
 
   typed_well : (t : TypeDecl) → IsTypeOf m (type_of ds t)
-  typed_well t = subst (λ n. IsTypeAmong n (length m.enums) (type_of ds t)) (sym class_count) (subst (λ n. IsTypeAmong (length (ordered ds)) n (type_of ds t)) (sym enum_count) (type_among ds t))
+  typed_well t = subst (λ n. IsTypeAmong n (length m.enums) (type_of ds t)) (sym class_count)
+      (subst (λ n. IsTypeAmong (length (ordered ds)) n (type_of ds t)) (sym enum_count) (type_among ds t))
 
   own_class : (i : ℕ) → i < length (ordered ds) → i < length m.classes
   own_class i h = let e = class_count in omega arith
@@ -282,37 +301,47 @@ module _ (ds : Decls) (ok : broken_rule ds ≡ None) where
   result_well None = λ x e. cc
   result_well (Some t) = λ x e. let k : type_of ds t ≡ x = cc in subst (IsTypeOf m) k (typed_well t)
 
-  number_well : AllByRecursion (λ a. 0 < length (ordered ds)) ds.assocs → (end_name : AssocDecl → List ℕ) → AllByRecursion (λ a. class_number (ordered ds) (end_name a) < length m.classes) ds.assocs
+  number_well : AllByRecursion (λ a. 0 < length (ordered ds)) ds.assocs → (end_name : AssocDecl → List ℕ) → AllByRecursion
+      (λ a. class_number (ordered ds) (end_name a) < length m.classes) ds.assocs
   number_well h end_name =
       all_with (λ a. 0 < length (ordered ds)) (λ a. class_number (ordered ds) (end_name a) < length m.classes)
       (λ a k. let n = number_below (ordered ds) (end_name a) k in let e = class_count in omega arith) ds.assocs h
 
   -- the numbers in the model are in range, where each class declares few attributes and operations
-  pub ranges : ((i : ℕ) (d : ClassDecl) → slice_get ds.classes i ≡ Some d → length d.attrs ≤ 64) → ((i : ℕ) (d : ClassDecl) → slice_get ds.classes i ≡ Some d → length d.ops ≤ 64) → IsInRange m
+  pub ranges : ((i : ℕ) (d : ClassDecl) → slice_get ds.classes i ≡ Some d → length d.attrs ≤ 64) →
+      ((i : ℕ) (d : ClassDecl) → slice_get ds.classes i ≡ Some d → length d.ops ≤ 64) → IsInRange m
   ranges few_attrs few_ops = record {
     small = record {
       classes = let e = class_count in let h = few in omega arith;
       enums = let e = enum_count in let h = few_enums in omega arith;
       literals = by_number (λ e. length e.literals ≤ 1000) m.enums (all_map (λ e. length e.literals ≤ 1000) enumeration ds.enums
-          (all_with (λ e. length e.literals ≤ 1000) (λ e. length (map (λ n. n.text) e.literals) ≤ 1000) (λ e h. let l = length-map e.literals (λ n. n.text) in omega arith) ds.enums few_in_enums));
-      attrs = parts_below (stored_in (type_of ds)) (λ i n d e. let a = few_attrs i d e in let l = length-map (filter (λ x. not x.is_derived) d.attrs) (attribute (type_of ds) n) in let k = fewer_kept (λ x. not x.is_derived) d.attrs in omega arith);
-      derived = parts_below (derived_in (type_of ds)) (λ i n d e. let a = few_attrs i d e in let l = length-map (filter (λ x. x.is_derived) d.attrs) (attribute (type_of ds) n) in let k = fewer_kept (λ x. x.is_derived) d.attrs in omega arith);
+          (all_with (λ e. length e.literals ≤ 1000) (λ e. length (map (λ n. n.text) e.literals) ≤ 1000)
+          (λ e h. let l = length-map e.literals (λ n. n.text) in omega arith) ds.enums few_in_enums));
+      attrs = parts_below (stored_in (type_of ds)) (λ i n d e. let a = few_attrs i d e in let l = length-map (filter (λ x. not x.is_derived) d.attrs)
+          (attribute (type_of ds) n) in let k = fewer_kept (λ x. not x.is_derived) d.attrs in omega arith);
+      derived = parts_below (derived_in (type_of ds)) (λ i n d e. let a = few_attrs i d e in let l = length-map (filter (λ x. x.is_derived) d.attrs)
+          (attribute (type_of ds) n) in let k = fewer_kept (λ x. x.is_derived) d.attrs in omega arith);
       ops = parts_below (operations_in (type_of ds)) (λ i n d e. let a = few_ops i d e in let l = length-map d.ops (operation (type_of ds) n) in omega arith);
-      assocs = let l = length-map ds.assocs (association (class_number (ordered ds))) in let h = short ds.assocs 200 (map_none (λ a. a.name.place) (slice_get ds.assocs 200) (few_assocs ds ok)) in omega arith;
+      assocs = let l = length-map ds.assocs (association (class_number (ordered ds))) in let h = short ds.assocs 200
+          (map_none (λ a. a.name.place) (slice_get ds.assocs 200) (few_assocs ds ok)) in omega arith;
     };
     acyclic = λ c. row_low (parent_numbers ds) (downward ds) 0 (ordered ds) c c (omega arith);
     attr_classes = by_number (λ a. a.class < length m.classes) m.attrs
         (all_numbered_parts (λ a. a.class < length m.classes) (stored_in (type_of ds)) (ordered ds)
-        (λ i d h. all_map (λ a. a.class < length m.classes) (attribute (type_of ds) i) (filter (λ x. not x.is_derived) d.attrs) (all_of (λ x. i < length m.classes) (λ x. own_class i h) (filter (λ x. not x.is_derived) d.attrs))));
+        (λ i d h. all_map (λ a. a.class < length m.classes) (attribute (type_of ds) i) (filter (λ x. not x.is_derived) d.attrs)
+        (all_of (λ x. i < length m.classes) (λ x. own_class i h) (filter (λ x. not x.is_derived) d.attrs))));
     attr_types = by_number (λ a. IsTypeOf m a.of_type) m.attrs
         (all_numbered_parts (λ a. IsTypeOf m a.of_type) (stored_in (type_of ds)) (ordered ds)
-        (λ i d h. all_map (λ a. IsTypeOf m a.of_type) (attribute (type_of ds) i) (filter (λ x. not x.is_derived) d.attrs) (all_of (λ x. IsTypeOf m (type_of ds x.of_type)) (λ x. typed_well x.of_type) (filter (λ x. not x.is_derived) d.attrs))));
+        (λ i d h. all_map (λ a. IsTypeOf m a.of_type) (attribute (type_of ds) i) (filter (λ x. not x.is_derived) d.attrs)
+        (all_of (λ x. IsTypeOf m (type_of ds x.of_type)) (λ x. typed_well x.of_type) (filter (λ x. not x.is_derived) d.attrs))));
     derived_classes = by_number (λ a. a.class < length m.classes) m.derived
         (all_numbered_parts (λ a. a.class < length m.classes) (derived_in (type_of ds)) (ordered ds)
-        (λ i d h. all_map (λ a. a.class < length m.classes) (attribute (type_of ds) i) (filter (λ x. x.is_derived) d.attrs) (all_of (λ x. i < length m.classes) (λ x. own_class i h) (filter (λ x. x.is_derived) d.attrs))));
+        (λ i d h. all_map (λ a. a.class < length m.classes) (attribute (type_of ds) i) (filter (λ x. x.is_derived) d.attrs)
+        (all_of (λ x. i < length m.classes) (λ x. own_class i h) (filter (λ x. x.is_derived) d.attrs))));
     derived_types = by_number (λ a. IsTypeOf m a.of_type) m.derived
         (all_numbered_parts (λ a. IsTypeOf m a.of_type) (derived_in (type_of ds)) (ordered ds)
-        (λ i d h. all_map (λ a. IsTypeOf m a.of_type) (attribute (type_of ds) i) (filter (λ x. x.is_derived) d.attrs) (all_of (λ x. IsTypeOf m (type_of ds x.of_type)) (λ x. typed_well x.of_type) (filter (λ x. x.is_derived) d.attrs))));
+        (λ i d h. all_map (λ a. IsTypeOf m a.of_type) (attribute (type_of ds) i) (filter (λ x. x.is_derived) d.attrs)
+        (all_of (λ x. IsTypeOf m (type_of ds x.of_type)) (λ x. typed_well x.of_type) (filter (λ x. x.is_derived) d.attrs))));
     op_classes = by_number (λ o. o.class < length m.classes) m.ops
         (all_numbered_parts (λ o. o.class < length m.classes) (operations_in (type_of ds)) (ordered ds)
         (λ i d h. all_map (λ o. o.class < length m.classes) (operation (type_of ds) i) d.ops (all_of (λ x. i < length m.classes) (λ x. own_class i h) d.ops)));
@@ -320,10 +349,15 @@ module _ (ds : Decls) (ok : broken_rule ds ≡ None) where
         (all_numbered_parts (λ o. All (λ p. IsTypeOf m p.of_type) o.params) (operations_in (type_of ds)) (ordered ds)
         (λ i d h. all_map (λ o. All (λ p. IsTypeOf m p.of_type) o.params) (operation (type_of ds) i) d.ops
         (all_of (λ x. All (λ p. IsTypeOf m p.of_type) (map (parameter (type_of ds)) x.params))
-        (λ x. by_number (λ p. IsTypeOf m p.of_type) (map (parameter (type_of ds)) x.params) (all_map (λ p. IsTypeOf m p.of_type) (parameter (type_of ds)) x.params (all_of (λ p. IsTypeOf m (type_of ds p.of_type)) (λ p. typed_well p.of_type) x.params))) d.ops)));
+        (λ x. by_number (λ p. IsTypeOf m p.of_type) (map (parameter (type_of ds)) x.params)
+        (all_map (λ p. IsTypeOf m p.of_type) (parameter (type_of ds)) x.params
+        (all_of (λ p. IsTypeOf m (type_of ds p.of_type)) (λ p. typed_well p.of_type) x.params))) d.ops)));
     result_types = by_number (λ o. ForSome o.result_type (IsTypeOf m)) m.ops
         (all_numbered_parts (λ o. ForSome o.result_type (IsTypeOf m)) (operations_in (type_of ds)) (ordered ds)
-        (λ i d h. all_map (λ o. ForSome o.result_type (IsTypeOf m)) (operation (type_of ds) i) d.ops (all_of (λ x. ForSome (option_map (type_of ds) x.result_type) (IsTypeOf m)) (λ x. result_well x.result_type) d.ops)));
-    first_ends = by_number (λ a. a.first.class < length m.classes) m.assocs (all_map (λ a. a.first.class < length m.classes) (association (class_number (ordered ds))) ds.assocs (number_well ends_some (λ a. a.first.class.text)));
-    second_ends = by_number (λ a. a.second.class < length m.classes) m.assocs (all_map (λ a. a.second.class < length m.classes) (association (class_number (ordered ds))) ds.assocs (number_well ends_some (λ a. a.second.class.text)));
+        (λ i d h. all_map (λ o. ForSome o.result_type (IsTypeOf m)) (operation (type_of ds) i) d.ops
+        (all_of (λ x. ForSome (option_map (type_of ds) x.result_type) (IsTypeOf m)) (λ x. result_well x.result_type) d.ops)));
+    first_ends = by_number (λ a. a.first.class < length m.classes) m.assocs
+        (all_map (λ a. a.first.class < length m.classes) (association (class_number (ordered ds))) ds.assocs (number_well ends_some (λ a. a.first.class.text)));
+    second_ends = by_number (λ a. a.second.class < length m.classes) m.assocs
+        (all_map (λ a. a.second.class < length m.classes) (association (class_number (ordered ds))) ds.assocs (number_well ends_some (λ a. a.second.class.text)));
   }

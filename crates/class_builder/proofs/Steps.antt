@@ -21,7 +21,8 @@ pub each_more : {A B : Type 0} (f : ℕ × A → B) (xs : List A) (i : ℕ) (x :
 each_more f xs i x h e = let z : 0 + i ≡ i = omega arith in rw z at (each_from f 0 xs i x h e)
 
 -- the same of what the elements stand for
-pub each_map : {A B C : Type 0} (f : ℕ × B → C) (g : A → B) (n : ℕ) (xs : List A) → map (λ p. f (p.0, g p.1)) (enumerate_from n xs) ≡ map f (enumerate_from n (map g xs))
+pub each_map : {A B C : Type 0} (f : ℕ × B → C) (g : A → B) (n : ℕ) (xs : List A) → map (λ p. f (p.0, g p.1)) (enumerate_from n xs) ≡ map f
+    (enumerate_from n (map g xs))
 each_map f g n [] = refl
 each_map f g n (x ∷ xs) = ap (λ l. f (n, g x) ∷ l) (each_map f g (n + 1) xs)
 
@@ -55,7 +56,8 @@ taken xs zero h = refl
 taken [] (suc i) h = absurd (omega arith)
 taken (x ∷ xs) (suc i) h = let e = taken xs i (omega arith) in omega arith
 
-pub joined_next : (c : ℕ) (xs : List (List ℕ)) (x : List ℕ) (i : ℕ) → length xs ≡ i → (join_with_byte c xs ++ cond (nat_lt 0 i) (c ∷ []) []) ++ x ≡ join_with_byte c (xs ++ x ∷ [])
+pub joined_next : (c : ℕ) (xs : List (List ℕ)) (x : List ℕ) (i : ℕ) → length xs ≡ i → (join_with_byte c xs ++ cond (nat_lt 0 i) (c ∷ []) []) ++ x
+    ≡ join_with_byte c (xs ++ x ∷ [])
 joined_next c [] x i e = let t : nat_lt 0 i ≡ false = grind (arith, nat_tests) in ap (λ b. cond b (c ∷ []) [] ++ x) t
 joined_next c (y ∷ ys) x i e =
     let t : nat_lt 0 i ≡ true = grind (arith, nat_tests) in

@@ -36,11 +36,14 @@ unbroken n (Some p) e = cc
 
 module _ (ds : Decls) (ok : broken_rule ds ≡ None) where
   all : AllByRecursion (λ o. o ≡ None)
-      (broken_names ds ∷ broken_at 4 (inheritance_cycle ds) ∷ broken_features ds ∷ broken_overriding ds ∷ broken_parts ds ∷ broken_sizes ds ∷ broken_counts ds ∷ [])
-  all = all_none (broken_names ds ∷ broken_at 4 (inheritance_cycle ds) ∷ broken_features ds ∷ broken_overriding ds ∷ broken_parts ds ∷ broken_sizes ds ∷ broken_counts ds ∷ []) ok
+      (broken_names ds ∷ broken_at 4 (inheritance_cycle ds) ∷ broken_features ds ∷ broken_overriding ds ∷ broken_parts ds ∷ broken_sizes ds ∷ broken_counts ds
+      ∷ [])
+  all = all_none (broken_names ds ∷ broken_at 4 (inheritance_cycle ds) ∷ broken_features ds ∷ broken_overriding ds ∷ broken_parts ds ∷ broken_sizes ds ∷
+      broken_counts ds ∷ []) ok
 
   pub known : unknown_type ds ≡ None
-  known = unbroken 2 (unknown_type ds) (all_none (broken_at 1 (name_declared_twice ds) ∷ broken_at 2 (unknown_type ds) ∷ broken_at 3 (parent_named_twice ds) ∷ []) all.0).1.0
+  known = unbroken 2 (unknown_type ds) (all_none (broken_at 1 (name_declared_twice ds) ∷ broken_at 2 (unknown_type ds) ∷ broken_at 3 (parent_named_twice ds) ∷
+      []) all.0).1.0
 
   pub acyclic : inheritance_cycle ds ≡ None
   acyclic = unbroken 4 (inheritance_cycle ds) all.1.0
@@ -48,15 +51,18 @@ module _ (ds : Decls) (ok : broken_rule ds ≡ None) where
   pub operations_differ : operation_declared_twice ds ≡ None
   operations_differ =
       unbroken 7 (operation_declared_twice ds)
-      (all_none (broken_at 5 (first_broken r.AttributeMetTwice ds) ∷ broken_at 6 (first_broken r.RoleClashes ds) ∷ broken_at 7 (operation_declared_twice ds) ∷ []) all.1.1.0).1.1.0
+      (all_none (broken_at 5 (first_broken r.AttributeMetTwice ds) ∷ broken_at 6 (first_broken r.RoleClashes ds) ∷ broken_at 7 (operation_declared_twice ds) ∷
+      []) all.1.1.0).1.1.0
 
   pub few_classes : too_many_classes ds ≡ None
   few_classes =
       unbroken 13 (too_many_classes ds)
       (all_none (broken_at 11 (bad_multiplicity ds) ∷ broken_at 12 (no_such_operation ds) ∷ broken_at 13 (too_many_classes ds) ∷ []) all.1.1.1.1.0).1.1.0
 
-  sizes : AllByRecursion (λ o. o ≡ None) (broken_at 14 (first_broken r.TooManyFeatures ds) ∷ broken_at 15 (too_many_assocs ds) ∷ broken_at 16 (too_many_invariants ds) ∷ [])
-  sizes = all_none (broken_at 14 (first_broken r.TooManyFeatures ds) ∷ broken_at 15 (too_many_assocs ds) ∷ broken_at 16 (too_many_invariants ds) ∷ []) all.1.1.1.1.1.0
+  sizes : AllByRecursion (λ o. o ≡ None) (broken_at 14 (first_broken r.TooManyFeatures ds) ∷ broken_at 15 (too_many_assocs ds) ∷ broken_at 16
+      (too_many_invariants ds) ∷ [])
+  sizes = all_none (broken_at 14 (first_broken r.TooManyFeatures ds) ∷ broken_at 15 (too_many_assocs ds) ∷ broken_at 16 (too_many_invariants ds) ∷
+      []) all.1.1.1.1.1.0
 
   pub few_features : first_broken r.TooManyFeatures ds ≡ None
   few_features = unbroken 14 (first_broken r.TooManyFeatures ds) sizes.0

@@ -40,12 +40,16 @@ abbrev pub plain_names : List (List ℕ × OclType)
 plain_names =
     (codes "Boolean", T.Bool) ∷ (codes "Integer", T.Int) ∷ (codes "String", T.Str) ∷ (codes "OclAny", T.Any) ∷ (codes "OclVoid", T.Void) ∷ []
 
--- the names of types: plain types, enumerations, and classes that stand in the order of their numbers
+-- those of enumerations, and of classes that stand in the order of their numbers
+abbrev pub enum_names : List EnumDecl → List (List ℕ × OclType)
+enum_names enums = map (λ p. (p.1.name.text, T.Enum p.0)) (enumerate_from 0 enums)
+
+abbrev pub class_names : List ClassDecl → List (List ℕ × OclType)
+class_names classes = map (λ p. (p.1.name.text, T.Class p.0)) (enumerate_from 0 classes)
+
+-- the names of types
 abbrev pub names_in : List EnumDecl → List ClassDecl → List (List ℕ × OclType)
-names_in enums classes =
-    plain_names
-    ++ map (λ p. (p.1.name.text, T.Enum p.0)) (enumerate_from 0 enums)
-    ++ map (λ p. (p.1.name.text, T.Class p.0)) (enumerate_from 0 classes)
+names_in enums classes = plain_names ++ enum_names enums ++ class_names classes
 
 -- what the name of a type stands for
 abbrev pub named_in : List EnumDecl → List ClassDecl → List ℕ → Option OclType

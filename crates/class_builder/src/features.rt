@@ -1,8 +1,8 @@
 ghost use Rattle.std.specs.Prelude.{◌≡◌, ◌++◌, ◌<◌, ◌^◌, [], ◌∷◌, IfOk, OnOk, Some, filter, if◌then◌else◌, length, map, not};
-ghost use Rattle.std.specs.BTreeMap.{get_by_text};
 ghost use Rattle.std.specs.Option.{option_map};
 ghost use Rattle.class_decls.specs.Names.{numbered};
-ghost use Rattle.class_builder.specs.Models.{attribute, derived_in, operation, operations_in, parameter, stored_in, type_by};
+ghost use Rattle.class_builder.specs.Models.{attribute, derived_in, operation, operations_in, parameter, stored_in};
+ghost use Rattle.class_builder.specs.Tables.{type_in};
 
 use crate::type_names::{TypeNames, type_of};
 use class_decls::{AttrDecl, ClassDecl, OpDecl, ParamDecl, TypeDecl};
@@ -17,7 +17,7 @@ fn attribute(
     class: ClassNo,
     decl: &AttrDecl,
 ) -> Result<Attribute, AllocError>
-    ensures { IfOk result (λ a. a ≡ attribute (type_by (λ text. get_by_text names.now text)) class decl.now) }
+    ensures { IfOk result (λ a. a ≡ attribute (type_in names.now) class decl.now) }
 {
     Ok(Attribute {
         name: Text::copy_of(alloc, decl.name.text.as_str())?,
@@ -33,7 +33,7 @@ fn add_attribute(
     decl: &AttrDecl,
     attrs: &mut Vec<Attribute>,
 ) -> Result<(), AllocError>
-    ensures { OnOk result (attrs.new.items ≡ attrs.old.items ++ attribute (type_by (λ text. get_by_text names.now text)) class decl.now ∷ []) }
+    ensures { OnOk result (attrs.new.items ≡ attrs.old.items ++ attribute (type_in names.now) class decl.now ∷ []) }
 {
     attrs.push(attribute(alloc, names, class, decl)?)?;
     Ok(())
@@ -47,7 +47,7 @@ fn add_attribute_if(
     holds: bool,
     attrs: &mut Vec<Attribute>,
 ) -> Result<(), AllocError>
-    ensures { OnOk result (attrs.new.items ≡ attrs.old.items ++ (if holds then attribute (type_by (λ text. get_by_text names.now text)) class decl.now ∷ [] else [])) }
+    ensures { OnOk result (attrs.new.items ≡ attrs.old.items ++ (if holds then attribute (type_in names.now) class decl.now ∷ [] else [])) }
 {
     if !holds {
         return Ok(());
@@ -63,7 +63,7 @@ fn add_stored(
     decls: &[AttrDecl],
     attrs: &mut Vec<Attribute>,
 ) -> Result<(), AllocError>
-    ensures { OnOk result (attrs.new.items ≡ attrs.old.items ++ map (attribute (type_by (λ text. get_by_text names.now text)) class) (filter (λ a. not a.is_derived) decls.now)) }
+    ensures { OnOk result (attrs.new.items ≡ attrs.old.items ++ map (attribute (type_in names.now) class) (filter (λ a. not a.is_derived) decls.now)) }
 {
     'decls: for decl in decls {
         add_attribute_if(alloc, names, class, decl, !decl.is_derived, attrs)?;
@@ -79,7 +79,7 @@ fn add_derived(
     decls: &[AttrDecl],
     attrs: &mut Vec<Attribute>,
 ) -> Result<(), AllocError>
-    ensures { OnOk result (attrs.new.items ≡ attrs.old.items ++ map (attribute (type_by (λ text. get_by_text names.now text)) class) (filter (λ a. a.is_derived) decls.now)) }
+    ensures { OnOk result (attrs.new.items ≡ attrs.old.items ++ map (attribute (type_in names.now) class) (filter (λ a. a.is_derived) decls.now)) }
 {
     'decls: for decl in decls {
         add_attribute_if(alloc, names, class, decl, decl.is_derived, attrs)?;
@@ -94,7 +94,7 @@ pub(crate) fn stored_attributes(
     classes: &[&ClassDecl],
 ) -> Result<Items<Attribute>, AllocError>
     requires { length classes.now < 2 ^ 32 }
-    ensures { IfOk result (λ v. v ≡ numbered (λ c d. stored_in (type_by (λ text. get_by_text names.now text)) c d.now) classes.now) }
+    ensures { IfOk result (λ v. v ≡ numbered (λ c d. stored_in (type_in names.now) c d.now) classes.now) }
 {
     let mut attrs = Vec::new(alloc);
     'classes: for (i, class) in classes.iter().enumerate() {
@@ -110,7 +110,7 @@ pub(crate) fn derived_attributes(
     classes: &[&ClassDecl],
 ) -> Result<Items<Attribute>, AllocError>
     requires { length classes.now < 2 ^ 32 }
-    ensures { IfOk result (λ v. v ≡ numbered (λ c d. derived_in (type_by (λ text. get_by_text names.now text)) c d.now) classes.now) }
+    ensures { IfOk result (λ v. v ≡ numbered (λ c d. derived_in (type_in names.now) c d.now) classes.now) }
 {
     let mut attrs = Vec::new(alloc);
     'classes: for (i, class) in classes.iter().enumerate() {
@@ -120,7 +120,7 @@ pub(crate) fn derived_attributes(
 }
 
 fn parameter(alloc: Global, names: &TypeNames, decl: &ParamDecl) -> Result<Parameter, AllocError>
-    ensures { IfOk result (λ p. p ≡ parameter (type_by (λ text. get_by_text names.now text)) decl.now) }
+    ensures { IfOk result (λ p. p ≡ parameter (type_in names.now) decl.now) }
 {
     Ok(Parameter {
         name: Text::copy_of(alloc, decl.name.text.as_str())?,
@@ -133,7 +133,7 @@ fn parameters(
     names: &TypeNames,
     decls: &[ParamDecl],
 ) -> Result<Items<Parameter>, AllocError>
-    ensures { IfOk result (λ v. v ≡ map (parameter (type_by (λ text. get_by_text names.now text))) decls.now) }
+    ensures { IfOk result (λ v. v ≡ map (parameter (type_in names.now)) decls.now) }
 {
     let mut params = Vec::new(alloc);
     'decls: for decl in decls {
@@ -147,7 +147,7 @@ fn result_type(
     names: &TypeNames,
     decl: &Option<TypeDecl>,
 ) -> Result<Option<OclType>, AllocError>
-    ensures { IfOk result (λ t. t ≡ option_map (type_by (λ text. get_by_text names.now text)) decl.now) }
+    ensures { IfOk result (λ t. t ≡ option_map (type_in names.now) decl.now) }
 {
     match decl {
         None => Ok(None),
@@ -161,7 +161,7 @@ fn operation(
     class: ClassNo,
     decl: &OpDecl,
 ) -> Result<Operation, AllocError>
-    ensures { IfOk result (λ o. o ≡ operation (type_by (λ text. get_by_text names.now text)) class decl.now) }
+    ensures { IfOk result (λ o. o ≡ operation (type_in names.now) class decl.now) }
 {
     Ok(Operation {
         name: Text::copy_of(alloc, decl.name.text.as_str())?,
@@ -180,7 +180,7 @@ fn add_operations(
     decls: &[OpDecl],
     ops: &mut Vec<Operation>,
 ) -> Result<(), AllocError>
-    ensures { OnOk result (ops.new.items ≡ ops.old.items ++ map (operation (type_by (λ text. get_by_text names.now text)) class) decls.now) }
+    ensures { OnOk result (ops.new.items ≡ ops.old.items ++ map (operation (type_in names.now) class) decls.now) }
 {
     'decls: for decl in decls {
         ops.push(operation(alloc, names, class, decl)?)?;
@@ -195,7 +195,7 @@ pub(crate) fn operations(
     classes: &[&ClassDecl],
 ) -> Result<Items<Operation>, AllocError>
     requires { length classes.now < 2 ^ 32 }
-    ensures { IfOk result (λ v. v ≡ numbered (λ c d. operations_in (type_by (λ text. get_by_text names.now text)) c d.now) classes.now) }
+    ensures { IfOk result (λ v. v ≡ numbered (λ c d. operations_in (type_in names.now) c d.now) classes.now) }
 {
     let mut ops = Vec::new(alloc);
     'classes: for (i, class) in classes.iter().enumerate() {

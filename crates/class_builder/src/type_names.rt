@@ -1,12 +1,13 @@
 ghost use Rattle.std.specs.Prelude.{◌≡◌, ◌≤◌, ◌^◌, List, ℕ, IfOk, OnOk, Some, None, length, map, unwrap_or};
 ghost use Rattle.std.specs.BTreeMap.{get_by_text};
-ghost use Rattle.std.specs.List.{enumerate_from, position_from};
+ghost use Rattle.std.specs.List.{position_from};
 ghost use Rattle.std.specs.Map.{lookup};
 ghost use Rattle.std.specs.Option.{option_or};
 ghost use Rattle.class_decls.specs.Texts.{same_text};
 ghost use Rattle.class_model.specs.declared.types.OclType.{OclType};
 ghost use Rattle.class_model.specs.declared.types.OclType.TheVariants as T;
-ghost use Rattle.class_builder.specs.Models.{class_number, named_in, nested, plain_names, type_by};
+ghost use Rattle.class_builder.specs.Models.{class_names, enum_names, named_in, nested, plain_names};
+ghost use Rattle.class_builder.specs.Tables.{type_in};
 
 use class_decls::{ClassDecl, EnumDecl, TypeDecl};
 use class_model::{ByName, ClassNo, Kind, OclType, add_first};
@@ -30,7 +31,7 @@ fn add_plain_types(alloc: Global, names: &mut TypeNames) -> Result<(), AllocErro
 
 fn add_enums(alloc: Global, enums: &[EnumDecl], names: &mut TypeNames) -> Result<(), AllocError>
     requires { length enums.now ≤ 2 ^ 32 }
-    ensures { OnOk result ((t : List ℕ) → get_by_text names.new t ≡ option_or (get_by_text names.old t) (lookup (λ name. same_text name t) (map (λ p. (p.1.name.text, T.Enum p.0)) (enumerate_from 0 enums.now)))) }
+    ensures { OnOk result ((t : List ℕ) → get_by_text names.new t ≡ option_or (get_by_text names.old t) (lookup (λ name. same_text name t) (enum_names enums.now))) }
 {
     'enums: for (i, decl) in enums.iter().enumerate() {
         add_first(
@@ -49,7 +50,7 @@ fn add_classes(
     names: &mut TypeNames,
 ) -> Result<(), AllocError>
     requires { length classes.now ≤ 2 ^ 32 }
-    ensures { OnOk result ((t : List ℕ) → get_by_text names.new t ≡ option_or (get_by_text names.old t) (lookup (λ name. same_text name t) (map (λ p. (p.1.now.name.text, T.Class p.0)) (enumerate_from 0 classes.now)))) }
+    ensures { OnOk result ((t : List ℕ) → get_by_text names.new t ≡ option_or (get_by_text names.old t) (lookup (λ name. same_text name t) (class_names (map (λ c. c.now) classes.now)))) }
 {
     'classes: for (i, class) in classes.iter().enumerate() {
         add_first(
@@ -108,7 +109,7 @@ pub(crate) fn type_of(
     names: &TypeNames,
     decl: &TypeDecl,
 ) -> Result<OclType, AllocError>
-    ensures { IfOk result (λ t. t ≡ type_by (λ text. get_by_text names.now text) decl.now) }
+    ensures { IfOk result (λ t. t ≡ type_in names.now decl.now) }
 {
     let named = named(alloc, names, decl.name.text.as_str())?;
     nested(alloc, decl.kinds.as_slice(), named)

@@ -11,7 +11,8 @@ use Rattle.class_model.specs.Indexes.{greater_by, latest}
 use Rattle.class_model.proofs.Greatest.{greatest_found, greatest_more}
 
 -- one declaration more, where it is of the name
-pub latest_more : (ops : List Operation) (os : List ℕ) (b : Bool) (i : ℕ) → cond b (Some (greater_by (class_at ops) (latest ops os) i)) (latest ops os) ≡ latest ops (os ++ cond b (i ∷ []) [])
+pub latest_more : (ops : List Operation) (os : List ℕ) (b : Bool) (i : ℕ) → cond b (Some (greater_by (class_at ops) (latest ops os) i)) (latest ops os)
+    ≡ latest ops (os ++ cond b (i ∷ []) [])
 latest_more ops os b i = greatest_more (class_at ops) os b i
 
 pub chosen_is : (r : ℕ → ℕ → Bool) → ((a b : ℕ) → r a b ≡ true → b ≤ a) → (ops : List Operation) (os : List ℕ) →
@@ -47,7 +48,8 @@ kept_true false false true b = refl
 kept_true false false false b = refl
 
 kept_if : (A : Bool) (u : ℕ → Bool) (h s : Bool) (b : ℕ) →
-    cond ((h && option_map_or (λ x. not (u x)) (cond A (Some b) None) false) && s) None (cond A (Some b) None) ≡ cond (A && cond (h && s) (u b && true) true) (Some b) None
+    cond ((h && option_map_or (λ x. not (u x)) (cond A (Some b) None) false) && s) None (cond A (Some b) None) ≡ cond (A && cond (h && s) (u b && true) true)
+    (Some b) None
 kept_if true u h s b = kept_true (u b) h s b
 kept_if false u h s b = cond_none None ((h && false) && s)
 
@@ -74,8 +76,10 @@ all_more test os d i = list_all-append test os (cond d (i ∷ []) []) ∙ ap (λ
 abbrev pub overriding : (ℕ → ℕ → Bool) → List Operation → List ℕ → Option ℕ → Option ℕ
 overriding r ops os o = option_and_then (λ best. cond (list_all (λ p. r (class_at ops best) (class_at ops p)) os) (Some best) None) o
 
-pub overriding_more : (r : ℕ → ℕ → Bool) (ops : List Operation) (os : List ℕ) (o : Option ℕ) (h s : Bool) (i : ℕ) (found : Option ℕ) → (s ≡ true → found ≡ overriding r ops os o) →
-    cond ((h && option_map_or (λ b. not (r (class_at ops b) (class_at ops i))) found false) && s) None (overriding r ops os o) ≡ overriding r ops (os ++ cond (h && s) (i ∷ []) []) o
+pub overriding_more : (r : ℕ → ℕ → Bool) (ops : List Operation) (os : List ℕ) (o : Option ℕ) (h s : Bool) (i : ℕ) (found : Option ℕ) →
+    (s ≡ true → found ≡ overriding r ops os o) →
+    cond ((h && option_map_or (λ b. not (r (class_at ops b) (class_at ops i))) found false) && s) None (overriding r ops os o) ≡ overriding r ops
+    (os ++ cond (h && s) (i ∷ []) []) o
 overriding_more r ops os o h s i found e =
     keep_step o (λ b. list_all (λ p. r (class_at ops b) (class_at ops p)) os) (λ b. r (class_at ops b) (class_at ops i)) h s found e
     ∙ ap (λ f. option_and_then (λ b. cond (f b) (Some b) None) o) (fun_ext (λ b. sym (all_more (λ p. r (class_at ops b) (class_at ops p)) os (h && s) i)))

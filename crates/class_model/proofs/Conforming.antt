@@ -97,7 +97,8 @@ module _ (m : ObjectModel) (down : IsAcyclic m) where
   class_up x y e (T.Class z) f = inherits_trans (parents_of m) down x y z e f
   class_up x y e c f = absurd (true≢false (sym f))
 
-  coll_up : (k : Kind) (s : _) (l : Kind) (t : _) (a b : OclType) → (conforms m a b ≡ true → (c : OclType) → conforms m b c ≡ true → conforms m a c ≡ true) → (r q : _) →
+  coll_up : (k : Kind) (s : _) (l : Kind) (t : _) (a b : OclType) → (conforms m a b ≡ true → (c : OclType) → conforms m b c ≡ true → conforms m a c ≡ true) →
+      (r q : _) →
       conforms m (T.Coll' k s (more_of-OclType a r)) (T.Coll' l t (more_of-OclType b q)) ≡ true → (c : OclType) →
       conforms m (T.Coll' l t (more_of-OclType b q)) c ≡ true → conforms m (T.Coll' k s (more_of-OclType a r)) c ≡ true
   coll_up k s l t a b up r q e T.Any f = refl

@@ -58,7 +58,8 @@ module _ (key : ℕ → ℕ) where
     none_left all [] h = refl
     none_left all (y ∷ ys) h = skip y (passes all y) (find (passes all) ys) h.0 ∙ none_left all ys h.1
 
-    here : (all : List ℕ) (b : ℕ) (ys : List ℕ) (p : Bool) → (p ≡ false → find (passes all) ys ≡ None) → cond p (Some b) (find (passes all) ys) ≡ cond p (Some b) None
+    here : (all : List ℕ) (b : ℕ) (ys : List ℕ) (p : Bool) → (p ≡ false → find (passes all) ys ≡ None) → cond p (Some b) (find (passes all) ys) ≡ cond p
+        (Some b) None
     here all b ys true h = refl
     here all b ys false h = h refl
 
@@ -68,7 +69,8 @@ module _ (key : ℕ → ℕ) where
     pub found_is : (b : ℕ) (xs ys : List ℕ) → IsGreatest b xs ys → find (passes (xs ++ b ∷ ys)) (xs ++ b ∷ ys) ≡ cond (passes (xs ++ b ∷ ys) b) (Some b) None
     found_is b xs ys g =
         let all = xs ++ b ∷ ys in
-        skipped all xs (b ∷ ys) (all_weaker (λ x less h. let up = low (key x) (key b) (related x b xs ys h) in let k : key x < key b = less in absurd (omega arith)) xs g.before)
+        skipped all xs (b ∷ ys) (all_weaker (λ x less h. let up = low (key x) (key b) (related x b xs ys h) in let k : key x < key b = less in absurd
+        (omega arith)) xs g.before)
         ∙ here all b ys (passes all b)
         (λ fails. none_left all ys
         (all_weaker
@@ -123,12 +125,14 @@ module _ (key : ℕ → ℕ) where
       let most : key o < key b + 1 = let k = t.1 in omega arith in
       let start : IsGreatest b xs (ys ++ o ∷ []) = record { before = g.before; behind = all_snoc (λ y. key y ≤ key b) ys o g.behind (omega arith) } in
       subst (λ q. Parted ((xs ++ b ∷ ys) ++ o ∷ rest) (greatest (Some q) rest)) (ap (λ c. cond c o b) (sym t.0))
-      (subst (λ l. Parted l (greatest (Some b) rest)) (sym (join_is (xs ++ b ∷ ys) o rest ∙ ap (λ l. l ++ rest) (snoc_is xs b ys o))) (parts_from b xs (ys ++ o ∷ []) rest start)))
+      (subst (λ l. Parted l (greatest (Some b) rest)) (sym (join_is (xs ++ b ∷ ys) o rest ∙ ap (λ l. l ++ rest) (snoc_is xs b ys o)))
+      (parts_from b xs (ys ++ o ∷ []) rest start)))
       (leb_tells (suc (key b)) (key o))
 
   -- the one that is related to all others is the greatest, if any is
   pub greatest_found : (r : ℕ → ℕ → Bool) → ((a b : ℕ) → r a b ≡ true → b ≤ a) → (all : List ℕ) →
-      option_and_then (λ b. cond (list_all (λ p. r (key b) (key p)) all) (Some b) None) (greatest_by key all) ≡ find (λ o. list_all (λ p. r (key o) (key p)) all) all
+      option_and_then (λ b. cond (list_all (λ p. r (key b) (key p)) all) (Some b) None) (greatest_by key all) ≡ find
+      (λ o. list_all (λ p. r (key o) (key p)) all) all
   greatest_found r low [] = refl
   greatest_found r low (o ∷ rest) =
       let p : Parted (o ∷ rest) (greatest (Some o) rest) = parts_from o [] [] rest (record { before = tt; behind = tt }) in
@@ -146,9 +150,11 @@ all_filter p q [] = refl
 all_filter p q (x ∷ xs) = filtered (q x) p x (filter q xs) ∙ ap (λ b. (not (q x) || p x) && b) (all_filter p q xs)
 
 -- one number more, where it passes
-pub greatest_more : (key : ℕ → ℕ) (os : List ℕ) (b : Bool) (i : ℕ) → cond b (Some (greater_by key (greatest_by key os) i)) (greatest_by key os) ≡ greatest_by key (os ++ cond b (i ∷ []) [])
+pub greatest_more : (key : ℕ → ℕ) (os : List ℕ) (b : Bool) (i : ℕ) → cond b (Some (greater_by key (greatest_by key os) i)) (greatest_by key os)
+    ≡ greatest_by key (os ++ cond b (i ∷ []) [])
 greatest_more key os true i = sym (fold-append (λ best o. Some (greater_by key best o)) None os (i ∷ []))
 greatest_more key os false i = sym (fold-append (λ best o. Some (greater_by key best o)) None os [])
 
-pub filter_more : (test : ℕ → Bool) (xs : List ℕ) (i : ℕ) → i < length xs → filter test (take (i + 1) xs) ≡ filter test (take i xs) ++ cond (test (get_or xs i 0)) (get_or xs i 0 ∷ []) []
+pub filter_more : (test : ℕ → Bool) (xs : List ℕ) (i : ℕ) → i < length xs → filter test (take (i + 1) xs) ≡ filter test (take i xs) ++ cond
+    (test (get_or xs i 0)) (get_or xs i 0 ∷ []) []
 filter_more test xs i h = ap (filter test) (take_more xs i 0 h) ∙ filter-append test (take i xs) (get_or xs i 0 ∷ [])

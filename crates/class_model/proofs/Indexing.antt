@@ -21,7 +21,8 @@ pub record IsIndexBy (m : ObjectModel) (r : ℕ → ℕ → Bool) (c : ℕ) (ind
   pub ops : index.ops ≡ listed_by (r c) m.ops
   pub attr : (t : List ℕ) → get_by_text index.attrs_by_name t ≡ position_from (λ a. r c a.class && same_text a.name t) 0 m.attrs
   pub derived : (t : List ℕ) → get_by_text index.derived_by_name t ≡ position_from (λ a. r c a.class && same_text a.name t) 0 m.derived
-  pub role : (t : List ℕ) → get_by_text index.roles_by_name t ≡ first_numbered (λ number a. option_and_then (λ e. Some (number, e)) (end_seen (r c) t a)) 0 m.assocs
+  pub role : (t : List ℕ) → get_by_text index.roles_by_name t ≡ first_numbered
+      (λ number a. option_and_then (λ e. Some (number, e)) (end_seen (r c) t a)) 0 m.assocs
   pub operation : (t : List ℕ) → get_by_text index.ops_by_name t ≡ chosen_by r m.ops (numbers_of (declares (r c) t) m.ops)
 
 module _ (m : ObjectModel) (table : List (List Bool)) (is : IsTable (parents_of m) table) where

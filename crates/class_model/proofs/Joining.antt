@@ -55,7 +55,8 @@ tail_is false b e = e
 in_tail : (z x : ℕ) (xs : List ℕ) → is_among xs z ≡ true → (nat_eq z x || is_among xs z) ≡ true
 in_tail z x xs e = tail_is (nat_eq z x) (is_among xs z) e
 
-kept_one : (P : ℕ → Type 0) (q : ℕ → Bool) (x : ℕ) (b : Bool) → q x ≡ b → (xs : List ℕ) → P x → AllByRecursion (λ x. P x × (q x ≡ true)) xs → AllByRecursion (λ x. P x × (q x ≡ true)) (cond b (x ∷ xs) xs)
+kept_one : (P : ℕ → Type 0) (q : ℕ → Bool) (x : ℕ) (b : Bool) → q x ≡ b → (xs : List ℕ) → P x → AllByRecursion (λ x. P x × (q x ≡ true)) xs → AllByRecursion
+    (λ x. P x × (q x ≡ true)) (cond b (x ∷ xs) xs)
 kept_one P q x true e xs p h = ((p, e), h)
 kept_one P q x false e xs p h = h
 
@@ -83,7 +84,8 @@ list_from f (x ∷ xs) h = both (f x) (list_all f xs) h.0 (list_from f xs h.1)
 all_among : (f : ℕ → Bool) (xs : List ℕ) (e : ℕ) → list_all f xs ≡ true → is_among xs e ≡ true → f e ≡ true
 all_among f [] e h g = absurd (true≢false (sym g))
 all_among f (x ∷ xs) e h g =
-    or_cases (nat_eq e x) (is_among xs e) (λ t. ap f (number_is e x t) ∙ first_of (f x) (list_all f xs) h) (all_among f xs e (second_of (f x) (list_all f xs) h)) g
+    or_cases (nat_eq e x) (is_among xs e) (λ t. ap f (number_is e x t) ∙ first_of (f x) (list_all f xs) h)
+    (all_among f xs e (second_of (f x) (list_all f xs) h)) g
 
 among_filter : (q : ℕ → Bool) (xs : List ℕ) (e : ℕ) → q e ≡ true → is_among xs e ≡ true → is_among (filter q xs) e ≡ true
 among_filter q [] e h g = g
@@ -98,27 +100,31 @@ module _ (m : ObjectModel) (down : IsAcyclic m) where
   chosen_above c x true o h g = h
   chosen_above c x false o h g = g
 
-  found_above : (c : ℕ) (p : ℕ → Bool) (xs : List ℕ) → AllByRecursion (λ x. is_a m c x ≡ true) xs → conforms m (T.Class c) (option_map_or T.Class (find p xs) T.Any) ≡ true
+  found_above : (c : ℕ) (p : ℕ → Bool) (xs : List ℕ) → AllByRecursion (λ x. is_a m c x ≡ true) xs → conforms m (T.Class c)
+      (option_map_or T.Class (find p xs) T.Any) ≡ true
   found_above c p [] h = refl
   found_above c p (x ∷ xs) h = chosen_above c x (p x) (find p xs) h.0 (found_above c p xs h.1)
 
   common_first : (c d : ℕ) → AllByRecursion (λ x. (is_a m c x ≡ true) × (is_a m d x ≡ true)) (common_ancestors m c d)
   common_first c d = kept_all (λ x. is_a m c x ≡ true) (is_a m d) (ancestors m c) (members (ancestors m c) (ancestors m c) (λ x e. e))
 
-  class_upper : (c d : ℕ) → (conforms m (T.Class c) (apart m (T.Class c) (T.Class d)) ≡ true) × (conforms m (T.Class d) (apart m (T.Class c) (T.Class d)) ≡ true)
+  class_upper : (c d : ℕ) → (conforms m (T.Class c) (apart m (T.Class c) (T.Class d)) ≡ true) ×
+      (conforms m (T.Class d) (apart m (T.Class c) (T.Class d)) ≡ true)
   class_upper c d =
-      let p : ℕ → Bool = λ x. list_all (is_a m x) (common_ancestors m c d) in (
-        found_above c p (common_ancestors m c d) (all_from (λ x. (is_a m c x ≡ true) × (is_a m d x ≡ true)) (λ x. is_a m c x ≡ true) (λ x h. h.0) (common_ancestors m c d) (common_first c d)),
-        found_above d p (common_ancestors m c d) (all_from (λ x. (is_a m c x ≡ true) × (is_a m d x ≡ true)) (λ x. is_a m d x ≡ true) (λ x h. h.1) (common_ancestors m c d) (common_first c d)),
-      )
+      let p : ℕ → Bool = λ x. list_all (is_a m x) (common_ancestors m c d) in
+      (found_above c p (common_ancestors m c d) (all_from (λ x. (is_a m c x ≡ true) × (is_a m d x ≡ true)) (λ x. is_a m c x ≡ true) (λ x h. h.0)
+      (common_ancestors m c d) (common_first c d)),
+      found_above d p (common_ancestors m c d) (all_from (λ x. (is_a m c x ≡ true) × (is_a m d x ≡ true)) (λ x. is_a m d x ≡ true) (λ x h. h.1)
+      (common_ancestors m c d) (common_first c d)))
 
-  coll_upper : (k : Kind) (s : _) (l : Kind) (t : _) (a b : OclType) (r q : _) (e : Bool) → kind_ghosts.eq k l ≡ e → (conforms m a (join m a b) ≡ true) × (conforms m b (join m a b) ≡ true) →
-      (conforms m (T.Coll' k s (more_of-OclType a r)) (cond e (T.Coll k (join m a b)) T.Any) ≡ true) × (conforms m (T.Coll' l t (more_of-OclType b q)) (cond e (T.Coll k (join m a b)) T.Any) ≡ true)
+  coll_upper : (k : Kind) (s : _) (l : Kind) (t : _) (a b : OclType) (r q : _) (e : Bool) → kind_ghosts.eq k l ≡ e → (conforms m a (join m a b) ≡ true) ×
+      (conforms m b (join m a b) ≡ true) →
+      (conforms m (T.Coll' k s (more_of-OclType a r)) (cond e (T.Coll k (join m a b)) T.Any) ≡ true) ×
+      (conforms m (T.Coll' l t (more_of-OclType b q)) (cond e (T.Coll k (join m a b)) T.Any) ≡ true)
   unfolding Rattle.class_model.specs.declared.types.OclType.TheBlock.hidden-the_row-OclType-0 denote.Hole.Carrier.hidden
-  coll_upper k s l t a b r q true e h = (
-    both (kind_ghosts.eq k k) (conforms m a (join m a b)) (kind_self k) h.0,
-    both (kind_ghosts.eq l k) (conforms m b (join m a b)) (ap (λ x. kind_ghosts.eq l x) (kind_is k l e) ∙ kind_self l) h.1,
-  )
+  coll_upper k s l t a b r q true e h =
+      (both (kind_ghosts.eq k k) (conforms m a (join m a b)) (kind_self k) h.0,
+      both (kind_ghosts.eq l k) (conforms m b (join m a b)) (ap (λ x. kind_ghosts.eq l x) (kind_is k l e) ∙ kind_self l) h.1)
   coll_upper k s l t a b r q false e h = (refl, refl)
 
   wider_upper : (a b x : OclType) (p q : Bool) → conforms m a b ≡ p → conforms m b a ≡ q → (conforms m a x ≡ true) × (conforms m b x ≡ true) →
@@ -127,9 +133,11 @@ module _ (m : ObjectModel) (down : IsAcyclic m) where
   wider_upper a b x false true e f h = (reflexive m down a, f)
   wider_upper a b x false false e f h = h
 
-  by_wider : (a b : OclType) → (conforms m a (apart m a b) ≡ true) × (conforms m b (apart m a b) ≡ true) → (conforms m a (join m a b) ≡ true) × (conforms m b (join m a b) ≡ true)
+  by_wider : (a b : OclType) → (conforms m a (apart m a b) ≡ true) × (conforms m b (apart m a b) ≡ true) → (conforms m a (join m a b) ≡ true) ×
+      (conforms m b (join m a b) ≡ true)
   by_wider a b h =
-      subst (λ x. (conforms m a x ≡ true) × (conforms m b x ≡ true)) (sym (join_is m a b)) (wider_upper a b (apart m a b) (conforms m a b) (conforms m b a) refl refl h)
+      subst (λ x. (conforms m a x ≡ true) × (conforms m b x ≡ true)) (sym (join_is m a b))
+      (wider_upper a b (apart m a b) (conforms m a b) (conforms m b a) refl refl h)
 
   -- both types conform to their join
   pub upper : (a b : OclType) → (conforms m a (join m a b) ≡ true) × (conforms m b (join m a b) ≡ true)
@@ -158,7 +166,8 @@ module _ (m : ObjectModel) (down : IsAcyclic m) where
       colls k a b (coll_is k s a) (coll_is l t b ∙ ap (λ x. T.Coll x b) (sym (kind_is k l (first_of (kind_ghosts.eq k l) (conforms m a b) e))))
   fit a u e = absurd (true≢false (sym e))
 
-  chosen_least : (e x : ℕ) (b : Bool) (o : Option ℕ) → (b ≡ true → is_a m x e ≡ true) → (b ≡ false → conforms m (option_map_or T.Class o T.Any) (T.Class e) ≡ true) →
+  chosen_least : (e x : ℕ) (b : Bool) (o : Option ℕ) → (b ≡ true → is_a m x e ≡ true) →
+      (b ≡ false → conforms m (option_map_or T.Class o T.Any) (T.Class e) ≡ true) →
       conforms m (option_map_or T.Class (cond b (Some x) o) T.Any) (T.Class e) ≡ true
   chosen_least e x true o h g = h refl
   chosen_least e x false o h g = g refl
@@ -175,7 +184,8 @@ module _ (m : ObjectModel) (down : IsAcyclic m) where
       let common = common_ancestors m c d in
       let there : is_among common e ≡ true = among_filter (is_a m d) (ancestors m c) e h.second h.first in
       found_least e (λ x. list_all (is_a m x) common) common (λ x all. all_among (is_a m x) common e all there)
-      (list_from (is_a m e) common (all_from (λ x. (is_a m c x ≡ true) × (is_a m d x ≡ true)) (λ x. is_a m e x ≡ true) (λ x g. h.below (T.Class x) g.0 g.1) common (common_first c d))) there
+      (list_from (is_a m e) common (all_from (λ x. (is_a m c x ≡ true) × (is_a m d x ≡ true)) (λ x. is_a m e x ≡ true)
+      (λ x g. h.below (T.Class x) g.0 g.1) common (common_first c d))) there
 
   -- what two types that do not conform to one another conform to
   module _ (a b u : OclType) (h : IsLeast m a b u) (no : conforms m a b ≡ false) (nor : conforms m b a ≡ false)
@@ -210,7 +220,8 @@ module _ (m : ObjectModel) (down : IsAcyclic m) where
         ap₂ (conforms m) (ap₂ (apart m) ea eb ∙ coll_apart m k k x z ∙ ap (λ e. cond e (T.Coll k (join m x z)) T.Any) (kind_self k)) eu
         ∙ coll_conforms m k k (join m x z) y
         ∙ both (kind_ghosts.eq k k) (conforms m (join m x z) y) (kind_self k)
-        (rec k x ea z y (element_least k x z y (subst (λ v. IsLeast m v (T.Coll k z) (T.Coll k y)) ea (subst (λ v. IsLeast m a v (T.Coll k y)) eb (subst (IsLeast m a b) eu h)))))
+        (rec k x ea z y (element_least k x z y (subst (λ v. IsLeast m v (T.Coll k z) (T.Coll k y)) ea
+        (subst (λ v. IsLeast m a v (T.Coll k y)) eb (subst (IsLeast m a b) eu h)))))
 
     colls_of : (k l : Kind) (x y z w : OclType) → a ≡ T.Coll k x → u ≡ T.Coll k y → b ≡ T.Coll l z → u ≡ T.Coll l w → Goal
     colls_of k l x y z w ea eu eb eu' =
@@ -231,13 +242,15 @@ module _ (m : ObjectModel) (down : IsAcyclic m) where
     by_fits (colls k x y ea eu) (classes c d eb eu') = absurd (no_class d k y (sym eu' ∙ eu))
     by_fits (colls k x y ea eu) (colls l z w eb eu') = colls_of k l x y z w ea eu eb eu'
 
-  wider_least : (a b u : OclType) → IsLeast m a b u → ((k : Kind) (x : OclType) → a ≡ T.Coll k x → (y w : OclType) → IsLeast m x y w → conforms m (join m x y) w ≡ true) →
+  wider_least : (a b u : OclType) → IsLeast m a b u →
+      ((k : Kind) (x : OclType) → a ≡ T.Coll k x → (y w : OclType) → IsLeast m x y w → conforms m (join m x y) w ≡ true) →
       (p q : Bool) → conforms m a b ≡ p → conforms m b a ≡ q → conforms m (cond p b (cond q a (apart m a b))) u ≡ true
   wider_least a b u h rec true q e f = h.second
   wider_least a b u h rec false true e f = h.first
   wider_least a b u h rec false false e f = by_fits a b u h e f rec (fit a u h.first) (fit b u h.second)
 
-  least_by : (a b u : OclType) → IsLeast m a b u → ((k : Kind) (x : OclType) → a ≡ T.Coll k x → (y w : OclType) → IsLeast m x y w → conforms m (join m x y) w ≡ true) →
+  least_by : (a b u : OclType) → IsLeast m a b u → ((k : Kind) (x : OclType) → a ≡ T.Coll k x → (y w : OclType) → IsLeast m x y w → conforms m (join m x y) w
+      ≡ true) →
       conforms m (join m a b) u ≡ true
   least_by a b u h rec = ap (λ x. conforms m x u) (join_is m a b) ∙ wider_least a b u h rec (conforms m a b) (conforms m b a) refl refl
 
@@ -245,5 +258,6 @@ module _ (m : ObjectModel) (down : IsAcyclic m) where
   pub least : (a b u : OclType) → IsLeast m a b u → conforms m (join m a b) u ≡ true
   least (T.Coll' k s (more_of-OclType a end_of-OclType)) b u h =
       least_by (T.Coll' k s (more_of-OclType a end_of-OclType)) b u h
-      (λ l x e y w g. subst (λ v. conforms m (join m v y) w ≡ true) (same_element k l a x (sym (coll_is k s a) ∙ e)) (least a y w (subst (λ v. IsLeast m v y w) (sym (same_element k l a x (sym (coll_is k s a) ∙ e))) g)))
+      (λ l x e y w g. subst (λ v. conforms m (join m v y) w ≡ true) (same_element k l a x (sym (coll_is k s a) ∙ e))
+      (least a y w (subst (λ v. IsLeast m v y w) (sym (same_element k l a x (sym (coll_is k s a) ∙ e))) g)))
   least a b u h = least_by a b u h (λ k x e y w g. absurd (no_coll a k x refl e))

@@ -31,7 +31,8 @@ one_option false i = refl
 
 -- the same from nought on, of a test that tells whether to keep the number
 pub kept_more : {A : Type 0} (test : ℕ × A → Bool) (xs : List A) (i : ℕ) (x : A) → i < length xs → x ≡ get_or xs i x →
-    chosen (λ p. cond (test p) (Some p.0) None) 0 (take (i + 1) xs) ≡ chosen (λ p. cond (test p) (Some p.0) None) 0 (take i xs) ++ cond (test (i, x)) (i ∷ []) []
+    chosen (λ p. cond (test p) (Some p.0) None) 0 (take (i + 1) xs) ≡ chosen (λ p. cond (test p) (Some p.0) None) 0 (take i xs) ++ cond (test (i, x)) (i ∷ [])
+    []
 kept_more test xs i x h e =
     let z : 0 + i ≡ i = omega arith in
     rw z at (chosen_more (λ p. cond (test p) (Some p.0) None) 0 xs i x h e)

@@ -50,7 +50,8 @@ module _ {V A : Type 0} (old : BTreeMap (String A) V) (name : List ℕ) (v : V) 
       ((t : List ℕ) → get_by_text new t ≡ cond (same_text name t) (Some v) (get_by_text old t)) →
       (t : List ℕ) → get_by_text new t ≡ option_or (get_by_text old t) (cond (same_text name t) (Some v) None)
   added new absent put t =
-      put t ∙ added_by (get_by_text old t) v (same_text name t) (λ e. none_from (get_by_text old t) (ap (λ k. is_some (get_by_text old k)) (sym (same_is name t e)) ∙ absent))
+      put t ∙ added_by (get_by_text old t) v (same_text name t)
+      (λ e. none_from (get_by_text old t) (ap (λ k. is_some (get_by_text old k)) (sym (same_is name t e)) ∙ absent))
 
 found : (b : Bool) (n : ℕ) (p q r : Option ℕ) → p ≡ option_or q r → cond b (Some n) p ≡ option_or (cond b (Some n) q) r
 found true n p q r e = refl
@@ -64,7 +65,8 @@ position_more test n (y ∷ ys) zero x h e = let k : n + 0 ≡ n = omega arith i
 position_more test n (y ∷ ys) (suc i) x h e =
     let k : suc i + 1 ≡ suc (i + 1) = omega arith in
     let m : n + suc i ≡ (n + 1) + i = omega arith in
-    rw (k, m) (found (test y) n (position_from test (n + 1) (take (i + 1) ys)) (position_from test (n + 1) (take i ys)) (cond (test x) (Some ((n + 1) + i)) None)
+    rw (k, m) (found (test y) n (position_from test (n + 1) (take (i + 1) ys)) (position_from test (n + 1) (take i ys))
+    (cond (test x) (Some ((n + 1) + i)) None)
     (position_more test (n + 1) ys i x (omega arith) e))
 
 -- the same from nought on
@@ -96,12 +98,14 @@ first_next f xs i x h e =
     rw z at (first_more f 0 xs i x h e)
 
 found_in : {A : Type 0} (enums : List Enumeration) (e : ℕ) (name : List ℕ) → e < length enums → (table : BTreeMap (String A) ℕ) →
-    ((x : Enumeration) → IsLiteralTable (get_or enums e x) table) → get_by_text table name ≡ option_and_then (λ enumeration. literal_in enumeration name) (slice_get enums e)
+    ((x : Enumeration) → IsLiteralTable (get_or enums e x) table) → get_by_text table name ≡ option_and_then (λ enumeration. literal_in enumeration name)
+    (slice_get enums e)
 found_in [] e name h table is = absurd (omega arith)
 found_in (x ∷ xs) zero name h table is = is x name
 found_in (x ∷ xs) (suc e) name h table is = found_in xs e name (omega arith) table is
 
 -- the literal that the table of its enumeration gives
-pub literal_is : {A : Type 0} (m : ObjectModel) (e : ℕ) (name : List ℕ) → e < length m.enums → (tables : List (BTreeMap (String A) ℕ)) (d : BTreeMap (String A) ℕ) →
+pub literal_is : {A : Type 0} (m : ObjectModel) (e : ℕ) (name : List ℕ) → e < length m.enums → (tables : List (BTreeMap (String A) ℕ))
+    (d : BTreeMap (String A) ℕ) →
     AreLiteralTables m.enums tables → get_by_text (get_or tables e d) name ≡ literal m e name
 literal_is m e name h tables d all = found_in m.enums e name h (get_or tables e d) (λ x. all.1 e x d h)

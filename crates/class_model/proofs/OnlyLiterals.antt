@@ -38,7 +38,8 @@ first_by false n i p q e = e
 first_from : {A : Type 0} (test : A → Bool) (n : ℕ) (xs : List A) (i : ℕ) (x : A) → i < length xs → x ≡ get_or xs i x → test x ≡ true →
     option_map_or (nat_eq (n + i)) (position_from test n xs) false ≡ not (is_some (position_from test n (take i xs)))
 first_from test n [] i x h e f = absurd (omega arith)
-first_from test n (y ∷ ys) zero x h e f = ap (λ b. option_map_or (nat_eq (n + 0)) (cond b (Some n) (position_from test (n + 1) ys)) false) (ap test (sym e) ∙ f) ∙ grind (arith, nat_tests)
+first_from test n (y ∷ ys) zero x h e f = ap (λ b. option_map_or (nat_eq (n + 0)) (cond b (Some n) (position_from test (n + 1) ys)) false)
+    (ap test (sym e) ∙ f) ∙ grind (arith, nat_tests)
 first_from test n (y ∷ ys) (suc i) x h e f =
     let m : n + suc i ≡ (n + 1) + i = omega arith in
     first_by (test y) n i (position_from test (n + 1) ys) (position_from test (n + 1) (take i ys))
@@ -53,16 +54,20 @@ and_false true = refl
 and_false false = refl
 
 more_by : {V : Type 0} (o : Option (Option V)) (f : ℕ → V) (p : Option ℕ) (i : ℕ) (h s : Bool) → (s ≡ true → h ≡ not (is_some p)) →
-    one_more (one_more o (option_and_then (λ l. Some (f l)) p)) (cond (h && s) (Some (f i)) None) ≡ one_more o (option_and_then (λ l. Some (f l)) (option_or p (cond s (Some i) None)))
+    one_more (one_more o (option_and_then (λ l. Some (f l)) p)) (cond (h && s) (Some (f i)) None) ≡ one_more o
+    (option_and_then (λ l. Some (f l)) (option_or p (cond s (Some i) None)))
 more_by o f None i h false e = ap (λ b. one_more (one_more o None) (cond b (Some (f i)) None)) (and_false h) ∙ more_none (one_more o None)
 more_by o f (Some q) i h false e = ap (λ b. one_more (one_more o (Some (f q))) (cond b (Some (f i)) None)) (and_false h) ∙ more_none (one_more o (Some (f q)))
-more_by o f None i h true e = ap (λ b. one_more (one_more o None) (cond (b && true) (Some (f i)) None)) (e refl) ∙ ap (λ p. one_more p (Some (f i))) (more_none o)
-more_by o f (Some q) i h true e = ap (λ b. one_more (one_more o (Some (f q))) (cond (b && true) (Some (f i)) None)) (e refl) ∙ more_none (one_more o (Some (f q)))
+more_by o f None i h true e = ap (λ b. one_more (one_more o None) (cond (b && true) (Some (f i)) None)) (e refl) ∙ ap (λ p. one_more p (Some (f i)))
+    (more_none o)
+more_by o f (Some q) i h true e = ap (λ b. one_more (one_more o (Some (f q))) (cond (b && true) (Some (f i)) None)) (e refl) ∙ more_none
+    (one_more o (Some (f q)))
 
 -- one literal more of an enumeration
 pub literal_more : {V A : Type 0} (o : Option (Option V)) (f : ℕ → V) (table : BTreeMap (String A) ℕ) (xs : List (List ℕ)) (i : ℕ) (x t : List ℕ) →
     i < length xs → x ≡ get_or xs i x → ((t : List ℕ) → get_by_text table t ≡ position_from (λ y. same_text y t) 0 xs) →
-    one_more (one_more o (option_and_then (λ l. Some (f l)) (position_from (λ y. same_text y t) 0 (take i xs)))) (cond (option_map_or (nat_eq i) (get_by_text table x) false && same_text x t) (Some (f i)) None)
+    one_more (one_more o (option_and_then (λ l. Some (f l)) (position_from (λ y. same_text y t) 0 (take i xs))))
+    (cond (option_map_or (nat_eq i) (get_by_text table x) false && same_text x t) (Some (f i)) None)
     ≡ one_more o (option_and_then (λ l. Some (f l)) (option_or (position_from (λ y. same_text y t) 0 (take i xs)) (cond (same_text x t) (Some i) None)))
 literal_more o f table xs i x t h e known =
     more_by o f (position_from (λ y. same_text y t) 0 (take i xs)) i (option_map_or (nat_eq i) (get_by_text table x) false) (same_text x t)
@@ -89,7 +94,8 @@ only_none (x ∷ []) e = cc
 only_none (x ∷ y ∷ rest) e = cc
 
 pub several_next : (enums : List Enumeration) (i : ℕ) (e : Enumeration) (t : List ℕ) → i < length enums → e ≡ get_or enums i e →
-    one_more (one_or_several (literals_in (take i enums) t)) (option_and_then (λ l. Some (i, l)) (literal_in e t)) ≡ one_or_several (literals_in (take (i + 1) enums) t)
+    one_more (one_or_several (literals_in (take i enums) t)) (option_and_then (λ l. Some (i, l)) (literal_in e t)) ≡ one_or_several
+    (literals_in (take (i + 1) enums) t)
 several_next enums i e t h is =
     let z : 0 + i ≡ i = omega arith in
     sym (several_more (literals_in (take i enums) t) (option_and_then (λ l. Some (i, l)) (literal_in e t)))

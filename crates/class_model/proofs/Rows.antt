@@ -62,7 +62,8 @@ or_left false b e = absurd (true≢false (sym e))
 
 any_more : (f g : ℕ → Bool) (xs : List ℕ) → AllByRecursion (λ x. f x ≡ true → g x ≡ true) xs → list_any f xs ≡ true → list_any g xs ≡ true
 any_more f g [] h e = e
-any_more f g (x ∷ xs) h e = or_cases (f x) (list_any f xs) (λ t. or_left (g x) (list_any g xs) (h.0 t)) (λ t. or_true (g x) (list_any g xs) (any_more f g xs h.1 t)) e
+any_more f g (x ∷ xs) h e = or_cases (f x) (list_any f xs) (λ t. or_left (g x) (list_any g xs) (h.0 t))
+    (λ t. or_true (g x) (list_any g xs) (any_more f g xs h.1 t)) e
 
 past_row : (parents : List (List ℕ)) (c : ℕ) → length parents ≤ c → row_at parents c ≡ []
 past_row [] c h = refl
@@ -91,7 +92,8 @@ module _ (parents : List (List ℕ)) where
     upward_enough zero m p h k = absurd (omega arith)
     upward_enough (suc n) zero p h k = absurd (omega arith)
     upward_enough (suc n) (suc m) p h k =
-        ap (λ l. p ∷ l) (flat_alike (upward parents n) (upward parents m) (row_at parents p) (all_from (λ q low. upward_enough n m q (omega arith) (omega arith)) (row_at parents p) (down p)))
+        ap (λ l. p ∷ l) (flat_alike (upward parents n) (upward parents m) (row_at parents p)
+        (all_from (λ q low. upward_enough n m q (omega arith) (omega arith)) (row_at parents p) (down p)))
 
     -- a class is or inherits from another where it is that one, or a parent does
     pub inherits_step : (c d : ℕ) → inherits c d ≡ (nat_eq d c || list_any (λ p. inherits p d) (row_at parents c))
@@ -124,7 +126,8 @@ module _ (parents : List (List ℕ)) where
         or_cases (nat_eq b a) (list_any (λ p. inherits p b) (row_at parents a))
         (λ t. let k : b ≡ a = grind (arith, nat_tests) in subst (λ x. inherits x c ≡ true) k f)
         (λ t. inherits_step a c ∙ or_true (nat_eq c a) (list_any (λ p. inherits p c) (row_at parents a))
-        (any_more (λ p. inherits p b) (λ p. inherits p c) (row_at parents a) (all_from (λ p low q. trans_by n p b c (let l : p < a = low in omega arith) q f) (row_at parents a) (down a)) t))
+        (any_more (λ p. inherits p b) (λ p. inherits p c) (row_at parents a)
+        (all_from (λ p low q. trans_by n p b c (let l : p < a = low in omega arith) q f) (row_at parents a) (down a)) t))
         (sym (inherits_step a b) ∙ e)
 
     -- ancestors of ancestors are ancestors
@@ -145,7 +148,8 @@ module _ (parents : List (List ℕ)) where
     in_range a (suc n) z h k =
         ⊎_elim
         (λ t. or_left (is_eq (nat_cmp z a)) (has nat_cmp (range_with_len (a + 1) n) z) (sym (eq_is z a) ∙ t.0))
-        (λ t. or_true (is_eq (nat_cmp z a)) (has nat_cmp (range_with_len (a + 1) n) z) (in_range (a + 1) n z (let e : z ≢ a = t.1 in omega arith) (omega arith)))
+        (λ t. or_true (is_eq (nat_cmp z a)) (has nat_cmp (range_with_len (a + 1) n) z)
+        (in_range (a + 1) n z (let e : z ≢ a = t.1 in omega arith) (omega arith)))
         (eqb_tells z a)
 
     both : (a b : Bool) → (a ≡ true → b ≡ true) → (a && b) ≡ a
@@ -187,7 +191,8 @@ module _ (parents : List (List ℕ)) where
     not_both true d i h k = let l = k refl in absurd (omega arith)
     not_both false d i h k = grind (arith, nat_tests)
 
-    last_is : (table : List (List Bool)) (i n d : ℕ) → IsTableTo table i → i < n → (nat_eq d i || flag_in (map (next table (row_at parents i) i) (range_with_len 0 n)) d) ≡ inherits i d
+    last_is : (table : List (List Bool)) (i n d : ℕ) → IsTableTo table i → i < n →
+        (nat_eq d i || flag_in (map (next table (row_at parents i) i) (range_with_len 0 n)) d) ≡ inherits i d
     last_is table i n d so_far h =
         let f : ℕ → Bool = next table (row_at parents i) i in
         ⊎_elim
@@ -250,7 +255,8 @@ module _ (parents : List (List ℕ)) (down : IsDownward parents) (a : ℕ) (out 
       inherits_step parents down b a
       ∙ ap (λ x. nat_eq a b || x)
       (⊎_elim
-      (λ low. none_any (λ p. is_among (ancestors parents p) a) (row_at parents b) (all_from (λ p less e. let k = inherits_low parents down p a e in let l : p < b = less in absurd (omega arith)) (row_at parents b) (down b)))
+      (λ low. none_any (λ p. is_among (ancestors parents p) a) (row_at parents b)
+      (all_from (λ p less e. let k = inherits_low parents down p a e in let l : p < b = less in absurd (omega arith)) (row_at parents b) (down b)))
       (λ high. ap (list_any (λ p. is_among (ancestors parents p) a)) (past_row parents b high))
       (cases_lt b (length parents)))
       ∙ or_false (nat_eq a b)

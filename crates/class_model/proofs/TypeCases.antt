@@ -50,7 +50,8 @@ join_apart m a b e f = join_is m a b ∙ ap₂ (λ x y. cond x b (cond y a (apar
 pub apart_other : (m : ObjectModel) (a b : OclType) → ((c d : ℕ) → a ≡ T.Class c → b ≡ T.Class d → ⊥) →
     ((k l : Kind) (x y : OclType) → a ≡ T.Coll k x → b ≡ T.Coll l y → ⊥) → T.Any ≡ apart m a b
 apart_other m (T.Class c) (T.Class d) f g = absurd (f c d refl refl)
-apart_other m (T.Coll' k s (more_of-OclType x end_of-OclType)) (T.Coll' l t (more_of-OclType y end_of-OclType)) f g = absurd (g k l x y (coll_is k s x) (coll_is l t y))
+apart_other m (T.Coll' k s (more_of-OclType x end_of-OclType)) (T.Coll' l t (more_of-OclType y end_of-OclType)) f g = absurd
+    (g k l x y (coll_is k s x) (coll_is l t y))
 apart_other m a b f g = refl
 
 pub no_class : (c : ℕ) (k : Kind) (t : OclType) → T.Class c ≡ T.Coll k t → ⊥

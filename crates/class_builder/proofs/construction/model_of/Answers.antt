@@ -60,7 +60,8 @@ returns c =
     ap (map (λ (d : Bor ClassDecl). d.now)) c.as_slice-by_number.ensures.value ∙ c.in_ok-by_number.ensures ∙ ap ordered c.in_ok-hierarchy.ensures in
     assembled ds decls (λ t. get_by_text c.in_ok-names.names t) number _ _ _ _ _ _ _ by_number
     (fun_ext (λ t. c.in_ok-names.ensures t ∙ ap₂ (λ e l. named_in e l t) c.as_slice.ensures by_number))
-    (fun_ext (λ t. ap (λ o. unwrap_or o 0) (c.in_ok-numbers.ensures t ∙ position-map (λ d. same_text d.name.text t) (λ d. d.now) 0 decls) ∙ ap (λ l. class_number l t) by_number))
+    (fun_ext (λ t. ap (λ o. unwrap_or o 0) (c.in_ok-numbers.ensures t ∙ position-map (λ d. same_text d.name.text t) (λ d. d.now) 0 decls) ∙ ap
+    (λ l. class_number l t) by_number))
     (record {
       name = c.in_ok-copy_of.ensures ∙ c.as_str.ensures;
       enums = c.in_ok-enumerations.ensures ∙ ap (map enumeration) c.as_slice-2.ensures;

@@ -9,4 +9,5 @@ pub decls-preserved : goal.decls-preserved
 decls-preserved c =
     joined2 _ _ _ _ _ c.decls.invariant c.in_ok-add_attribute_if.ensures
     ∙ ap (λ l. c.args.attrs.now.items ++ l)
-    (sym (kept_more (attribute (type_by (λ text. get_by_text c.args.names.now text)) c.args.class) (λ a. not a.is_derived) c.args.decls.now _ _ c.decls-test.true c.decl-item.is))
+    (sym (kept_more (attribute (type_by (λ text. get_by_text c.args.names.now text)) c.args.class)
+    (λ a. not a.is_derived) c.args.decls.now _ _ c.decls-test.true c.decl-item.is))

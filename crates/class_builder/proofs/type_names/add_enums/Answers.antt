@@ -9,4 +9,5 @@ pub enums-preserved : goal.enums-preserved
 enums-preserved c = λ t.
     c.in_ok-add_first.ensures t
     ∙ rw (c.enums.invariant t, c.as_str.ensures)
-    (named_more (λ name. same_text name t) (get_by_text c.args.names.now t) (λ p. (p.1.name.text, T.Enum p.0)) c.args.enums.now c.enums.i _ c.enums-test.true c.index-enums-i.is)
+    (named_more (λ name. same_text name t) (get_by_text c.args.names.now t)
+    (λ p. (p.1.name.text, T.Enum p.0)) c.args.enums.now c.enums.i _ c.enums-test.true c.index-enums-i.is)

@@ -8,4 +8,5 @@ use Rattle.class_model.specs.declared.types.OclType.TheVariants as T
 use Rattle.class_builder.proofs.type_names.add_enums.Given as goal
 
 abbrev pub invariant-enums : goal.invariant-enums
-invariant-enums l = (t : List ℕ) → get_by_text l.names t ≡ option_or (get_by_text l.fn.names t) (lookup (λ name. same_text name t) (map (λ p. (p.1.name.text, T.Enum p.0)) (enumerate_from 0 (take l.i l.enums))))
+invariant-enums l = (t : List ℕ) → get_by_text l.names t ≡ option_or (get_by_text l.fn.names t)
+    (lookup (λ name. same_text name t) (map (λ p. (p.1.name.text, T.Enum p.0)) (enumerate_from 0 (take l.i l.enums))))

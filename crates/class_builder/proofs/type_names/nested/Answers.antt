@@ -15,6 +15,7 @@ kinds-preserved c =
     let x = get_or kinds (c.kinds.i - 1) Set in (
       ap (T.Coll x) (c.in_ok-new.ensures ∙ c.kinds.invariant.0)
           ∙ ap (λ l. nested l c.args.of_type)
-          (sym (drop_before kinds c.kinds.i x c.kinds-test.true c.kinds.invariant.1 (default_alike kinds (c.kinds.i - 1) Set x (let t = c.kinds-test.true in let u = c.kinds.invariant.1 in omega arith)))),
+          (sym (drop_before kinds c.kinds.i x c.kinds-test.true c.kinds.invariant.1
+          (default_alike kinds (c.kinds.i - 1) Set x (let t = c.kinds-test.true in let u = c.kinds.invariant.1 in omega arith)))),
       let u = c.kinds.invariant.1 in omega arith,
     )

@@ -9,4 +9,5 @@ pub assocs-preserved : goal.assocs-preserved
 assocs-preserved c = λ t.
     c.in_ok-add_roles.ensures t
     ∙ rw (c.assocs.invariant t)
-    (sym (first_next (λ number a. option_and_then (λ e. Some (number, e)) (end_seen (above c.args.rows.now c.args.class) t a)) c.args.assocs.now c.assocs.i _ c.assocs-test.true c.index-assocs-i.is))
+    (sym (first_next (λ number a. option_and_then (λ e. Some (number, e))
+    (end_seen (above c.args.rows.now c.args.class) t a)) c.args.assocs.now c.assocs.i _ c.assocs-test.true c.index-assocs-i.is))

@@ -7,4 +7,5 @@ use Rattle.class_model.specs.Indexes.{above}
 use Rattle.class_model.proofs.class_index.roles_by_name.Given as goal
 
 abbrev pub invariant-assocs : goal.invariant-assocs
-invariant-assocs l = (t : List ℕ) → get_by_text l.map t ≡ first_numbered (λ number a. option_and_then (λ e. Some (number, e)) (end_seen (above l.rows l.class) t a)) 0 (take l.i l.assocs)
+invariant-assocs l = (t : List ℕ) → get_by_text l.map t ≡ first_numbered
+    (λ number a. option_and_then (λ e. Some (number, e)) (end_seen (above l.rows l.class) t a)) 0 (take l.i l.assocs)

@@ -8,4 +8,5 @@ pub classes-preserved : goal.classes-preserved
 classes-preserved c =
     c.in_ok-push.ensures.items
     ∙ rw (c.classes.invariant, c.inherits.ensures)
-    (sym (map-range_with_len_more (λ d. nat_eq d c.args.class || list_any (λ p. above c.args.rows.now p d) c.args.parents.now) 0 c.classes.other c.classes.other (omega arith)))
+    (sym (map-range_with_len_more (λ d. nat_eq d c.args.class || list_any
+    (λ p. above c.args.rows.now p d) c.args.parents.now) 0 c.classes.other c.classes.other (omega arith)))

@@ -13,4 +13,5 @@ classes-preserved c = λ down.
     (sym (row_of_map (λ d. d.parents) c.args.classes.now c.classes.i _ c.classes-test.true c.index-classes-i.is)))
 
 pub returns : goal.returns
-returns c = all_rows (map (λ d. d.parents) c.args.classes.now) c.requires.downward c.classes.rows c.classes.i (c.classes.invariant c.requires.downward) (let l = length-map c.args.classes.now (λ d. d.parents) in omega arith)
+returns c = all_rows (map (λ d. d.parents) c.args.classes.now) c.requires.downward c.classes.rows c.classes.i (c.classes.invariant c.requires.downward)
+    (let l = length-map c.args.classes.now (λ d. d.parents) in omega arith)

@@ -8,4 +8,5 @@ use Rattle.class_model.proofs.literals.add_literals.Given as goal
 
 abbrev pub invariant-literals : goal.invariant-literals
 invariant-literals l =
-    (t : List ℕ) → get_by_text l.map t ≡ one_more (get_by_text l.fn.map t) (option_and_then (λ x. Some (l.number, x)) (position_from (λ x. same_text x t) 0 (take l.i l.literals)))
+    (t : List ℕ) → get_by_text l.map t ≡ one_more (get_by_text l.fn.map t)
+    (option_and_then (λ x. Some (l.number, x)) (position_from (λ x. same_text x t) 0 (take l.i l.literals)))

@@ -26,7 +26,8 @@ ops-preserved c = λ t.
     let found = get_by_text c.ops.map op.name in
     c.remove_if.ensures t
     ∙ rw (c.as_str.ensures, c.is_missed-holds.ensures, c.ops.invariant t)
-    (ap (λ k. cond ((h && option_map_or (λ b. not (r (class_at ops b) k)) found false) && s) None (overriding r ops os o)) (sym (class_is ops i op c.ops-test.true c.op-item.is))
+    (ap (λ k. cond ((h && option_map_or (λ b. not (r (class_at ops b) k)) found false) && s) None (overriding r ops os o))
+    (sym (class_is ops i op c.ops-test.true c.op-item.is))
     ∙ overriding_more r ops os o h s i found (λ e. ap (get_by_text c.ops.map) (same_is op.name t e) ∙ c.ops.invariant t)
     ∙ ap (λ l. overriding r ops l o) (sym (numbers_more (declares (r c.args.class) t) ops i op c.ops-test.true c.op-item.is)))
 

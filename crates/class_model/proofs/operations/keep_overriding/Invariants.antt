@@ -6,4 +6,5 @@ use Rattle.class_model.proofs.Chosen.{overriding}
 use Rattle.class_model.proofs.operations.keep_overriding.Given as goal
 
 abbrev pub invariant-ops : goal.invariant-ops
-invariant-ops l = (t : List ℕ) → get_by_text l.map t ≡ overriding (above l.rows) l.ops (numbers_of (declares (above l.rows l.class) t) (take l.op-index l.ops)) (get_by_text l.fn.map t)
+invariant-ops l = (t : List ℕ) → get_by_text l.map t ≡ overriding (above l.rows) l.ops
+    (numbers_of (declares (above l.rows l.class) t) (take l.op-index l.ops)) (get_by_text l.fn.map t)

@@ -9,4 +9,5 @@ use Rattle.class_model.proofs.operations.listed_operations.Given as goal
 abbrev pub invariant-ops : goal.invariant-ops
 invariant-ops l =
     l.numbers.items
-    ≡ chosen (λ p. cond (above l.rows l.class p.1.class && option_map_or (nat_eq p.0) (position_from (declares (above l.rows l.class) p.1.name) 0 l.ops) false) (Some p.0) None) 0 (take l.i l.ops)
+    ≡ chosen (λ p. cond (above l.rows l.class p.1.class && option_map_or (nat_eq p.0)
+    (position_from (declares (above l.rows l.class) p.1.name) 0 l.ops) false) (Some p.0) None) 0 (take l.i l.ops)
