@@ -359,5 +359,6 @@ module _ (ds : Decls) (ok : broken_rule ds ≡ None) where
     first_ends = by_number (λ a. a.first.class < length m.classes) m.assocs
         (all_map (λ a. a.first.class < length m.classes) (association (class_number (ordered ds))) ds.assocs (number_well ends_some (λ a. a.first.class.text)));
     second_ends = by_number (λ a. a.second.class < length m.classes) m.assocs
-        (all_map (λ a. a.second.class < length m.classes) (association (class_number (ordered ds))) ds.assocs (number_well ends_some (λ a. a.second.class.text)));
+        (all_map (λ a. a.second.class < length m.classes) (association (class_number (ordered ds))) ds.assocs (number_well ends_some
+        (λ a. a.second.class.text)));
   }

@@ -31,7 +31,8 @@ fn add_plain_types(alloc: Global, names: &mut TypeNames) -> Result<(), AllocErro
 
 fn add_enums(alloc: Global, enums: &[EnumDecl], names: &mut TypeNames) -> Result<(), AllocError>
     requires { length enums.now ≤ 2 ^ 32 }
-    ensures { OnOk result ((t : List ℕ) → get_by_text names.new t ≡ option_or (get_by_text names.old t) (lookup (λ name. same_text name t) (enum_names enums.now))) }
+    ensures { OnOk result ((t : List ℕ) → get_by_text names.new t ≡ option_or (get_by_text names.old t) (lookup (λ name. same_text name t)
+        (enum_names enums.now))) }
 {
     'enums: for (i, decl) in enums.iter().enumerate() {
         add_first(
@@ -50,7 +51,8 @@ fn add_classes(
     names: &mut TypeNames,
 ) -> Result<(), AllocError>
     requires { length classes.now ≤ 2 ^ 32 }
-    ensures { OnOk result ((t : List ℕ) → get_by_text names.new t ≡ option_or (get_by_text names.old t) (lookup (λ name. same_text name t) (class_names (map (λ c. c.now) classes.now)))) }
+    ensures { OnOk result ((t : List ℕ) → get_by_text names.new t ≡ option_or (get_by_text names.old t) (lookup (λ name. same_text name t) (class_names (map
+        (λ c. c.now) classes.now)))) }
 {
     'classes: for (i, class) in classes.iter().enumerate() {
         add_first(

@@ -111,20 +111,22 @@ module _ (m : ObjectModel) (down : IsAcyclic m) where
   class_upper : (c d : ℕ) → (conforms m (T.Class c) (apart m (T.Class c) (T.Class d)) ≡ true) ×
       (conforms m (T.Class d) (apart m (T.Class c) (T.Class d)) ≡ true)
   class_upper c d =
-      let p : ℕ → Bool = λ x. list_all (is_a m x) (common_ancestors m c d) in
-      (found_above c p (common_ancestors m c d) (all_from (λ x. (is_a m c x ≡ true) × (is_a m d x ≡ true)) (λ x. is_a m c x ≡ true) (λ x h. h.0)
-      (common_ancestors m c d) (common_first c d)),
-      found_above d p (common_ancestors m c d) (all_from (λ x. (is_a m c x ≡ true) × (is_a m d x ≡ true)) (λ x. is_a m d x ≡ true) (λ x h. h.1)
-      (common_ancestors m c d) (common_first c d)))
+      let p : ℕ → Bool = λ x. list_all (is_a m x) (common_ancestors m c d) in (
+        found_above c p (common_ancestors m c d) (all_from (λ x. (is_a m c x ≡ true) × (is_a m d x ≡ true)) (λ x. is_a m c x ≡ true) (λ x h. h.0)
+            (common_ancestors m c d) (common_first c d)),
+        found_above d p (common_ancestors m c d) (all_from (λ x. (is_a m c x ≡ true) × (is_a m d x ≡ true)) (λ x. is_a m d x ≡ true) (λ x h. h.1)
+            (common_ancestors m c d) (common_first c d)),
+      )
 
   coll_upper : (k : Kind) (s : _) (l : Kind) (t : _) (a b : OclType) (r q : _) (e : Bool) → kind_ghosts.eq k l ≡ e → (conforms m a (join m a b) ≡ true) ×
       (conforms m b (join m a b) ≡ true) →
       (conforms m (T.Coll' k s (more_of-OclType a r)) (cond e (T.Coll k (join m a b)) T.Any) ≡ true) ×
       (conforms m (T.Coll' l t (more_of-OclType b q)) (cond e (T.Coll k (join m a b)) T.Any) ≡ true)
   unfolding Rattle.class_model.specs.declared.types.OclType.TheBlock.hidden-the_row-OclType-0 denote.Hole.Carrier.hidden
-  coll_upper k s l t a b r q true e h =
-      (both (kind_ghosts.eq k k) (conforms m a (join m a b)) (kind_self k) h.0,
-      both (kind_ghosts.eq l k) (conforms m b (join m a b)) (ap (λ x. kind_ghosts.eq l x) (kind_is k l e) ∙ kind_self l) h.1)
+  coll_upper k s l t a b r q true e h = (
+    both (kind_ghosts.eq k k) (conforms m a (join m a b)) (kind_self k) h.0,
+    both (kind_ghosts.eq l k) (conforms m b (join m a b)) (ap (λ x. kind_ghosts.eq l x) (kind_is k l e) ∙ kind_self l) h.1,
+  )
   coll_upper k s l t a b r q false e h = (refl, refl)
 
   wider_upper : (a b x : OclType) (p q : Bool) → conforms m a b ≡ p → conforms m b a ≡ q → (conforms m a x ≡ true) × (conforms m b x ≡ true) →

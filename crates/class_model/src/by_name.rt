@@ -92,7 +92,8 @@ pub(crate) fn add_first_if<V: Drop>(
     name: &str,
     value: V,
 ) -> Result<(), AllocError>
-    ensures { OnOk result ((t : List ℕ) → get_by_text map.new t ≡ option_or (get_by_text map.old t) (if holds && same_text name.now t then Some value else None)) }
+    ensures { OnOk result ((t : List ℕ) → get_by_text map.new t ≡ option_or (get_by_text map.old t) (if holds
+        && same_text name.now t then Some value else None)) }
 {
     if !holds {
         return Ok(());

@@ -74,7 +74,8 @@ fn add_roles(
     number: AssocNo,
     assoc: &Association,
 ) -> Result<(), AllocError>
-    ensures { OnOk result ((t : List ℕ) → get_by_text map.new t ≡ option_or (get_by_text map.old t) (option_and_then (λ e. Some (number, e)) (end_seen (above rows.now class) t assoc.now))) }
+    ensures { OnOk result ((t : List ℕ) → get_by_text map.new t ≡ option_or (get_by_text map.old t) (option_and_then (λ e. Some (number, e)) (end_seen
+        (above rows.now class) t assoc.now))) }
 {
     let at_first = is_above(rows, class, assoc.second.class);
     let first = assoc.first.role.as_str();
@@ -92,7 +93,8 @@ fn roles_by_name(
     class: ClassNo,
 ) -> Result<ByName<(AssocNo, End)>, AllocError>
     requires { length assocs.now ≤ 2 ^ 32 }
-    ensures { IfOk result (λ m. (t : List ℕ) → get_by_text m t ≡ first_numbered (λ number a. option_and_then (λ e. Some (number, e)) (end_seen (above rows.now class) t a)) 0 assocs.now) }
+    ensures { IfOk result (λ m. (t : List ℕ) → get_by_text m t ≡ first_numbered (λ number a. option_and_then (λ e. Some (number, e)) (end_seen
+        (above rows.now class) t a)) 0 assocs.now) }
 {
     let mut map = BTreeMap::new(alloc);
     'assocs: for (i, assoc) in assocs.iter().enumerate() {

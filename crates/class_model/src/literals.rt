@@ -49,7 +49,8 @@ fn add_literal_if(
     name: &str,
     literal: (EnumNo, LitNo),
 ) -> Result<(), AllocError>
-    ensures { OnOk result ((t : List ℕ) → get_by_text map.new t ≡ one_more (get_by_text map.old t) (if holds && same_text name.now t then Some literal else None)) }
+    ensures { OnOk result ((t : List ℕ) → get_by_text map.new t ≡ one_more (get_by_text map.old t) (if holds
+        && same_text name.now t then Some literal else None)) }
 {
     if !holds {
         return Ok(());
@@ -67,7 +68,8 @@ fn add_literals(
 ) -> Result<(), AllocError>
     requires small { length literals.now ≤ 2 ^ 32 }
     requires table { (t : List ℕ) → get_by_text table.now t ≡ position_from (λ x. same_text x t) 0 literals.now }
-    ensures { OnOk result ((t : List ℕ) → get_by_text map.new t ≡ one_more (get_by_text map.old t) (option_and_then (λ l. Some (number, l)) (position_from (λ x. same_text x t) 0 literals.now))) }
+    ensures { OnOk result ((t : List ℕ) → get_by_text map.new t ≡ one_more (get_by_text map.old t) (option_and_then (λ l. Some (number, l)) (position_from
+        (λ x. same_text x t) 0 literals.now))) }
 {
     'literals: for (i, literal) in literals.iter().enumerate() {
         let name = literal.as_str();

@@ -96,7 +96,8 @@ fn add_later(
     name: &str,
     number: OpNo,
 ) -> Result<(), AllocError>
-    ensures { OnOk result ((t : List ℕ) → get_by_text map.new t ≡ (if same_text name.now t then Some (greater_by (class_at ops.now) (get_by_text map.old t) number) else get_by_text map.old t)) }
+    ensures { OnOk result ((t : List ℕ) → get_by_text map.new t ≡ (if same_text name.now t then Some (greater_by (class_at ops.now)
+        (get_by_text map.old t) number) else get_by_text map.old t)) }
 {
     let best = map.get(name).copied();
     put(alloc, map, name, later(ops, best, number))
@@ -110,7 +111,8 @@ fn add_later_if(
     name: &str,
     number: OpNo,
 ) -> Result<(), AllocError>
-    ensures { OnOk result ((t : List ℕ) → get_by_text map.new t ≡ (if holds && same_text name.now t then Some (greater_by (class_at ops.now) (get_by_text map.old t) number) else get_by_text map.old t)) }
+    ensures { OnOk result ((t : List ℕ) → get_by_text map.new t ≡ (if holds && same_text name.now t then Some (greater_by (class_at ops.now)
+        (get_by_text map.old t) number) else get_by_text map.old t)) }
 {
     if !holds {
         return Ok(());
@@ -155,7 +157,8 @@ fn is_missed(
     class: ClassNo,
     op: &Operation,
 ) -> bool
-    ensures { result ≡ (above rows.now class op.now.class && option_map_or (λ best. not (above rows.now (class_at ops.now best) op.now.class)) (get_by_text map.now op.now.name) false) }
+    ensures { result ≡ (above rows.now class op.now.class && option_map_or (λ best. not (above rows.now (class_at ops.now best) op.now.class))
+        (get_by_text map.now op.now.name) false) }
 {
     is_above(rows, class, op.class) && misses(map, ops, rows, op)
 }
@@ -170,7 +173,8 @@ fn remove_if(map: &mut ByName<OpNo>, holds: bool, name: &str)
 
 /// Removes the declarations that do not override all others of their names.
 fn keep_overriding(map: &mut ByName<OpNo>, ops: &[Operation], rows: &[Items<bool>], class: ClassNo)
-    ensures { (t : List ℕ) → get_by_text map.new t ≡ option_and_then (λ best. if list_all (λ p. above rows.now (class_at ops.now best) (class_at ops.now p)) (numbers_of (declares (above rows.now class) t) ops.now) then Some best else None) (get_by_text map.old t) }
+    ensures { (t : List ℕ) → get_by_text map.new t ≡ option_and_then (λ best. if list_all (λ p. above rows.now (class_at ops.now best) (class_at ops.now p))
+        (numbers_of (declares (above rows.now class) t) ops.now) then Some best else None) (get_by_text map.old t) }
 {
     'ops: for op in ops {
         let holds = is_missed(map, ops, rows, class, op);

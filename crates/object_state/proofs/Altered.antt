@@ -145,7 +145,8 @@ put l s d = put_insert nat_cmp_total exact_unsigned s.objects d.object (object_o
 others : (l : Layout) (s : State) (d : ObjectChange) (p : ℕ) → p ≢ d.object → object (apply l s (Create d)) p ≡ object s p
 others l s d p ne =
     lookup_insert nat_cmp_total s.objects d.object (object_of d) p
-    ∙ by_test (is_at (nat_cmp p) d.object) (λ y. absurd (ne (exact_unsigned p d.object (equal _ y)))) (λ n. ap (λ b. cond b (Some (object_of d)) (object s p)) n)
+    ∙ by_test (is_at (nat_cmp p) d.object) (λ y. absurd (ne (exact_unsigned p d.object (equal _ y)))) (λ n. ap (λ b. cond b (Some (object_of d))
+    (object s p)) n)
 
 abbrev kind_look : Option Object → Look
 kind_look u = class_look (option_and_then (λ (x : Object). Some x.class) u)
@@ -159,7 +160,8 @@ stand l a e u = option_map_or (λ (x : Object). may_stand l a e x.class) u false
 abbrev nav_look : List Value → Bool → Look
 nav_look vs b = items_look (cond b (Some vs) None)
 
-created : (l : Layout) (s : State) (d : ObjectChange) → IsValid l s → Fits l s (Create d) → (x : Cell) → Tells (hits l d x) (look l s x) (look l (apply l s (Create d)) x)
+created : (l : Layout) (s : State) (d : ObjectChange) → IsValid l s → Fits l s (Create d) → (x : Cell)
+    → Tells (hits l d x) (look l s x) (look l (apply l s (Create d)) x)
 created l s d v f (Kind p) =
     by_number p d.object
     (λ eq.
@@ -172,7 +174,8 @@ created l s d v f (Slot p b) =
     (λ eq.
     let g : CreationAgrees l s d = f.agrees in
     let before : look l s (Slot p b) ≡ L.Absent = ap (slot_look l b) (ap (λ (q : ℕ). object s q) eq ∙ free l s d f) in
-    let after : look l (apply l s (Create d)) (Slot p b) ≡ value_look (slot l (object_of d) b) = ap (slot_look l b) (ap (λ (q : ℕ). object (apply l s (Create d)) q) eq ∙ put l s d) in
+    let after : look l (apply l s (Create d)) (Slot p b) ≡ value_look (slot l (object_of d) b) = ap (slot_look l b) (ap (λ (q : ℕ). object (apply l s
+    (Create d)) q) eq ∙ put l s d) in
     alike (hits l d (Slot p b)) (list_any (nat_eq b) (attrs l d.class)) _ _ (first_true (nat_eq p d.object) _ (eq-eqb p d.object eq))
     (known (list_any (nat_eq b) (attrs l d.class)) _ _
     (λ h e.
@@ -185,7 +188,8 @@ created l s d v f (Nav a e p) =
     by_number p d.object
     (λ eq.
     let items = map Obj (joined s a e p) in
-    let before : look l s (Nav a e p) ≡ L.Absent = ap (λ (u : Option Object). nav_look items (stand l a (opposite e) u)) (ap (λ (q : ℕ). object s q) eq ∙ free l s d f) in
+    let before : look l s (Nav a e p) ≡ L.Absent = ap (λ (u : Option Object). nav_look items (stand l a (opposite e) u)) (ap (λ (q : ℕ). object s q) eq
+    ∙ free l s d f) in
     let after : look l (apply l s (Create d)) (Nav a e p) ≡ nav_look items (may_stand l a (opposite e) d.class)
     = ap (λ (u : Option Object). nav_look items (stand l a (opposite e) u)) (ap (λ (q : ℕ). object (apply l s (Create d)) q) eq ∙ put l s d) in
     alike (hits l d (Nav a e p)) (may_stand l a (opposite e) d.class) _ _ (first_true (nat_eq p d.object) _ (eq-eqb p d.object eq))
@@ -255,7 +259,8 @@ linked l s d f (Nav b e p) =
     let r = both (nat_eq d.assoc b) (nat_eq (end_of (d.first, d.second) (opposite e)) p) h in
     let assoc = eqb-true d.assoc b r.0 in
     let object = eqb-true (end_of (d.first, d.second) (opposite e)) p r.1 in
-    let up : stands l s b (opposite e) p ≡ true = subst (λ (z : ℕ). stands l s z (opposite e) p ≡ true) assoc (subst (λ (z : ℕ). stands l s d.assoc (opposite e) z ≡ true) object (end_stands l s d f (opposite e))) in
+    let up : stands l s b (opposite e) p ≡ true = subst (λ (z : ℕ). stands l s z (opposite e) p ≡ true) assoc (subst (λ (z : ℕ). stands l s d.assoc
+    (opposite e) z ≡ true) object (end_stands l s d f (opposite e))) in
     longer (λ (x : (ℕ × ℕ) × (ℕ × ℕ)). end_of x.1 e) (filter q s.links) (filter q (insert_entry link_cmp s.links (d.assoc, d.stamp) (d.first, d.second)))
     (filter_insert_in link_total q s.links (d.assoc, d.stamp) (d.first, d.second) here h)
     (sym (ap (nav_look (map Obj (joined s b e p))) up) ∙ eq ∙ ap (nav_look (map Obj (joined t b e p))) up))
@@ -282,12 +287,14 @@ one_place l c a b i e e' =
     let r' = position-Some (nat_eq b) (attrs l c) i 0 e' in
     eqb-true a _ r.1 ∙ sym (eqb-true b _ r'.1)
 
-slot_now : (p q : Option ℕ) (x : Object) (old new : Value) → option_and_then (slice_get x.slots) p ≡ Some old → q ≡ p → option_and_then (slice_get (set_at p x new).slots) q ≡ Some new
+slot_now : (p q : Option ℕ) (x : Object) (old new : Value) → option_and_then (slice_get x.slots) p ≡ Some old → q ≡ p
+    → option_and_then (slice_get (set_at p x new).slots) q ≡ Some new
 slot_now None q x old new h e = absurd (some≢none old (sym h))
 slot_now (Some i) q x old new h e = ap (λ (u : Option ℕ). option_and_then (slice_get (slice_set x.slots i new)) u) e ∙ get_set x.slots i old new h
 
 filter_set : (q : ℕ → Bool) (test : ℕ → Bool) (es : List (ℕ × Object)) (x y : Object) → lookup test es ≡ Some x → y.class ≡ x.class
-    → map (λ (e : ℕ × Object). e.0) (filter (λ (e : ℕ × Object). q e.1.class) (set_value test es y)) ≡ map (λ (e : ℕ × Object). e.0) (filter (λ (e : ℕ × Object). q e.1.class) es)
+    → map (λ (e : ℕ × Object). e.0) (filter (λ (e : ℕ × Object). q e.1.class) (set_value test es y)) ≡ map (λ (e : ℕ × Object). e.0) (filter (λ
+    (e : ℕ × Object). q e.1.class) es)
 filter_set q test [] x y h c = refl
 filter_set q test (e ∷ es) x y h c =
     by_test (test e.0)
@@ -296,15 +303,18 @@ filter_set q test (e ∷ es) x y h c =
     rw k (keyed (q y.class) (q e.1.class) (ap q (c ∙ ap (λ (z : Object). z.class) (sym here)))))
     (λ n. rw n (headed (q e.1.class) (filter_set q test es x y (sym (ap (λ b. cond b (Some e.1) (lookup test es)) n) ∙ h) c)))
   where
-    keyed : (a b : Bool) → a ≡ b → map (λ (e : ℕ × Object). e.0) (cond a ((e.0, y) ∷ filter (λ (e : ℕ × Object). q e.1.class) es) (filter (λ (e : ℕ × Object). q e.1.class) es))
+    keyed : (a b : Bool) → a ≡ b → map (λ (e : ℕ × Object). e.0) (cond a ((e.0, y) ∷ filter (λ (e : ℕ × Object). q e.1.class) es) (filter (λ
+        (e : ℕ × Object). q e.1.class) es))
         ≡ map (λ (e : ℕ × Object). e.0) (cond b (e ∷ filter (λ (e : ℕ × Object). q e.1.class) es) (filter (λ (e : ℕ × Object). q e.1.class) es))
     keyed true true g = refl
     keyed true false g = absurd (true≢false g)
     keyed false true g = absurd (true≢false (sym g))
     keyed false false g = refl
 
-    headed : (b : Bool) → map (λ (e : ℕ × Object). e.0) (filter (λ (e : ℕ × Object). q e.1.class) (set_value test es y)) ≡ map (λ (e : ℕ × Object). e.0) (filter (λ (e : ℕ × Object). q e.1.class) es)
-        → map (λ (e : ℕ × Object). e.0) (cond b (e ∷ filter (λ (e : ℕ × Object). q e.1.class) (set_value test es y)) (filter (λ (e : ℕ × Object). q e.1.class) (set_value test es y)))
+    headed : (b : Bool) → map (λ (e : ℕ × Object). e.0) (filter (λ (e : ℕ × Object). q e.1.class) (set_value test es y)) ≡ map (λ (e : ℕ × Object). e.0) (filter
+        (λ (e : ℕ × Object). q e.1.class) es)
+        → map (λ (e : ℕ × Object). e.0) (cond b (e ∷ filter (λ (e : ℕ × Object). q e.1.class) (set_value test es y)) (filter (λ (e : ℕ × Object). q e.1.class)
+        (set_value test es y)))
         ≡ map (λ (e : ℕ × Object). e.0) (cond b (e ∷ filter (λ (e : ℕ × Object). q e.1.class) es) (filter (λ (e : ℕ × Object). q e.1.class) es))
     headed true g = ap (λ l. e.0 ∷ l) g
     headed false g = g
@@ -332,7 +342,8 @@ set l s o a old new z is at differ x = by x
     by : (x : Cell) → Tells (same x (Slot o a)) (look l s x) (look l (with_object s o (with_slot l z a new)) x)
     by (Kind p) = equal_looks false _ _ refl
         (by_number p o
-        (λ eq. ap kind_look (ap (λ (q : ℕ). object s q) eq ∙ is) ∙ ap L.Class (sym class) ∙ sym (ap kind_look (ap (λ (q : ℕ). object (with_object s o (with_slot l z a new)) q) eq ∙ now)))
+        (λ eq. ap kind_look (ap (λ (q : ℕ). object s q) eq ∙ is) ∙ ap L.Class (sym class) ∙ sym (ap kind_look (ap (λ (q : ℕ). object (with_object s o
+        (with_slot l z a new)) q) eq ∙ now)))
         (λ ne. ap kind_look (sym (apart p ne))))
     by (Slot p b) = by_number p o
         (λ eq.
@@ -354,7 +365,8 @@ set l s o a old new z is at differ x = by x
         (by_number p o
         (λ eq. ap (λ (u : Option Object). nav_look (map Obj (joined s b e p)) (stand l b (opposite e) u)) (ap (λ (q : ℕ). object s q) eq ∙ is)
         ∙ ap (λ (c : ℕ). nav_look (map Obj (joined s b e p)) (may_stand l b (opposite e) c)) (sym class)
-        ∙ sym (ap (λ (u : Option Object). nav_look (map Obj (joined s b e p)) (stand l b (opposite e) u)) (ap (λ (q : ℕ). object (with_object s o (with_slot l z a new)) q) eq ∙ now)))
+        ∙ sym (ap (λ (u : Option Object). nav_look (map Obj (joined s b e p)) (stand l b (opposite e) u)) (ap (λ (q : ℕ). object (with_object s o
+        (with_slot l z a new)) q) eq ∙ now)))
         (λ ne. ap (λ (u : Option Object). nav_look (map Obj (joined s b e p)) (stand l b (opposite e) u)) (sym (apart p ne))))
     by (Extent c) = equal_looks false _ _ refl
         (ap (λ (os : List ℕ). L.Items (map Obj os)) (sym (filter_set (λ k. is_a l k c) (is_at (nat_cmp o)) s.objects z (with_slot l z a new) is class)))
@@ -371,11 +383,13 @@ no_cell_back l s name old (Slot p b) = refl
 no_cell_back l s name old (Nav a e p) = refl
 no_cell_back l s name old (Extent c) = refl
 
-tells : (l : Layout) (s : State) (c : Change) (x : Cell) → IsValid l s → Fits l s c → SetsAnother c → Tells (has_cell (touched l c) x) (look l s x) (look l (apply l s c) x)
+tells : (l : Layout) (s : State) (c : Change) (x : Cell) → IsValid l s → Fits l s c → SetsAnother c
+    → Tells (has_cell (touched l c) x) (look l s x) (look l (apply l s c) x)
 tells l s (Create d) x v f n = alike _ _ _ _ (cells_hit l d x) (created l s d v f x)
 tells l s (Remove d) x v f n =
     let t = apply l s (Remove d) in
-    let r = alike (has_cell (cells_of l (object_back d)) x) _ _ _ (cells_hit l (object_back d) x) (created l t (object_back d) (stays_valid l s (Remove d) v f) (fits_back l s (Remove d) v f) x) in
+    let r = alike (has_cell (cells_of l (object_back d)) x) _ _ _ (cells_hit l (object_back d) x) (created l t (object_back d) (stays_valid l s (Remove d) v f)
+    (fits_back l s (Remove d) v f) x) in
     turned _ _ _ (subst (λ (u : State). Tells (has_cell (cells_of l d) x) (look l t x) (look l u x)) (taken_back l s (Remove d) v f) r)
 tells l s (SetSlot o a old new) x v f n =
     let g : SettingAgrees l s o a old new = f.agrees in
@@ -386,7 +400,8 @@ tells l s (SetSlot o a old new) x v f n =
 tells l s (Link d) x v f n = alike _ _ _ _ (pair_meets l d x) (linked l s d f x)
 tells l s (Unlink d) x v f n =
     let t = apply l s (Unlink d) in
-    let r = alike (has_cell (touched l (Link (link_back d))) x) _ _ _ (pair_meets l (link_back d) x) (linked l t (link_back d) (fits_back l s (Unlink d) v f) x) in
+    let r = alike (has_cell (touched l (Link (link_back d))) x) _ _ _ (pair_meets l (link_back d) x) (linked l t (link_back d) (fits_back l s
+    (Unlink d) v f) x) in
     turned _ _ _ (subst (λ (u : State). Tells (has_cell (touched l (Unlink d)) x) (look l t x) (look l u x)) (taken_back l s (Unlink d) v f) r)
 tells l s (Bind name old new) x v f n = equal_looks false _ _ refl (no_cell l s name old new x)
 tells l s (Unbind name old) x v f n = equal_looks false _ _ refl (no_cell_back l s name old x)

@@ -102,7 +102,8 @@ pub link_missing : (s : State) (a f g : ℕ) → stamp_of s a f g ≡ None → (
 link_missing s a f g h k e same =
     let r = find_none (λ e. nat_eq e.0.0 a && nat_eq e.1.0 f && nat_eq e.1.1 g) s.links (missing _ h) (is_at (link_cmp k)) (f, g) e in
     let here : k ≡ r.0 = link_exact k r.0 (equal _ r.1) in
-    true≢false (sym (both_true (nat_eq r.0.0 a) (nat_eq f f) (nat_eq g g) (eq-eqb _ _ (sym (ap (λ z. z.0) here) ∙ same)) (eq-eqb f f refl) (eq-eqb g g refl)) ∙ r.2)
+    true≢false (sym (both_true (nat_eq r.0.0 a) (nat_eq f f) (nat_eq g g) (eq-eqb _ _ (sym (ap (λ z. z.0) here) ∙ same)) (eq-eqb f f refl) (eq-eqb g g refl))
+    ∙ r.2)
   where
     missing : (o : Option ((ℕ × ℕ) × (ℕ × ℕ))) → option_map (λ e. e.0.1) o ≡ None → o ≡ None
     missing None h = refl
@@ -146,15 +147,30 @@ pub slot_back : (l : Layout) (x : Object) (a : ℕ) (old new : Value) → slot l
 slot_back l x a old new h =
     set_at_back (place l x.class a) (place l (with_slot l x a new).class a) x old new h (ap (λ c. place l c a) (class_set_at (place l x.class a) x new))
 
-pub apply_set : (l : Layout) (s : State) (o a : ℕ) (old new : Value) (x : Object) → object s o ≡ Some x → apply l s (SetSlot o a old new) ≡ with_object s o (with_slot l x a new)
+pub apply_set : (l : Layout) (s : State) (o a : ℕ) (old new : Value) (x : Object) → object s o ≡ Some x
+    → apply l s (SetSlot o a old new) ≡ with_object s o (with_slot l x a new)
 apply_set l s o a old new x e = ap (λ (u : Option Object). option_map_or (λ x. with_object s o (with_slot l x a new)) u s) e
 
-unbound : (l : Layout) (s : State) (name : List ℕ) (old : Option Variable) (new : Variable) → IsStrictlySortedBy text_cmp (keys_of s.variables) → variable s name ≡ old
+unbound : (l : Layout) (s : State) (name : List ℕ) (old : Option Variable) (new : Variable) → IsStrictlySortedBy text_cmp (keys_of s.variables)
+    → variable s name ≡ old
     → apply l (apply l s (Bind name old new)) (unbinding name new old) ≡ s
 unbound l s name None new up e i =
-    record { objects = s.objects; links = s.links; variables = remove_inserted nat_list_cmp_total s.variables name new e i; next_object = s.next_object; next_stamp = s.next_stamp }
+    record {
+      objects = s.objects;
+      links = s.links;
+      variables = remove_inserted nat_list_cmp_total s.variables name new e i;
+      next_object = s.next_object;
+      next_stamp = s.next_stamp;
+    }
 unbound l s name (Some old) new up e i =
-    record { objects = s.objects; links = s.links; variables = insert_back nat_list_cmp_total exact_bytes s.variables name old new up e i; next_object = s.next_object; next_stamp = s.next_stamp }
+    record {
+      objects = s.objects;
+      links = s.links;
+      variables = insert_back nat_list_cmp_total exact_bytes s.variables name old new up e i;
+      next_object =
+          s.next_object;
+      next_stamp = s.next_stamp;
+    }
 
 pub absent : {X : Type 0} (o : Option X) → ((x : X) → o ≡ Some x → ⊥) → o ≡ None
 absent None h = refl
@@ -171,12 +187,26 @@ taken_back l s (Create d) v f =
     let g : CreationAgrees l s d = f.agrees in
     let k = faultless l s (Create d) f.faultless in
     let free : object s d.object ≡ None = g.free (other_number d.object last_number k.number) in
-    λ i. record { objects = remove_inserted nat_cmp_total s.objects d.object (object_of d) free i; links = s.links; variables = s.variables; next_object = g.before i; next_stamp = s.next_stamp }
+    λ i. record {
+      objects = remove_inserted nat_cmp_total s.objects d.object (object_of d) free i;
+      links = s.links;
+      variables = s.variables;
+      next_object =
+          g.before i;
+      next_stamp = s.next_stamp;
+    }
 taken_back l s (Remove d) v f =
     let g : RemovalAgrees l s d = f.agrees in
     let k = live (object s d.object) (faultless l s (Remove d) f.faultless).live in
     let there : object s d.object ≡ Some (object_of d) = k.1 ∙ ap (λ (x : Object). Some x) (g.same k.0 k.1) in
-    λ i. record { objects = insert_removed nat_cmp_total exact_unsigned s.objects d.object (object_of d) v.objects.ordered there i; links = s.links; variables = s.variables; next_object = g.before i; next_stamp = s.next_stamp }
+    λ i. record {
+      objects = insert_removed nat_cmp_total exact_unsigned s.objects d.object (object_of d) v.objects.ordered there i;
+      links = s.links;
+      variables =
+          s.variables;
+      next_object = g.before i;
+      next_stamp = s.next_stamp;
+    }
 taken_back l s (SetSlot o a old new) v f =
     let g : SettingAgrees l s o a old new = f.agrees in
     let k = live (object s o) (faultless l s (SetSlot o a old new) f.faultless).live in
@@ -184,17 +214,50 @@ taken_back l s (SetSlot o a old new) v f =
     let now : object (with_object s o x') o ≡ Some x' = lookup_set_here (is_at (nat_cmp o)) s.objects k.0 x' k.1 in
     ap (λ (t : State). apply l t (SetSlot o a new old)) (apply_set l s o a old new k.0 k.1)
     ∙ apply_set l (with_object s o x') o a new old x' now
-    ∙ (λ i. record { objects = set_value (is_at (nat_cmp o)) (set_value (is_at (nat_cmp o)) s.objects x') (slot_back l k.0 a old new (g.same k.0 k.1) i); links = s.links; variables = s.variables; next_object = s.next_object; next_stamp = s.next_stamp })
-    ∙ (λ i. record { objects = set_back (is_at (nat_cmp o)) s.objects k.0 x' k.1 i; links = s.links; variables = s.variables; next_object = s.next_object; next_stamp = s.next_stamp })
+    ∙ (λ i. record {
+      objects = set_value (is_at (nat_cmp o)) (set_value (is_at (nat_cmp o)) s.objects x') (slot_back l k.0 a old new
+          (g.same k.0 k.1) i);
+      links = s.links;
+      variables = s.variables;
+      next_object = s.next_object;
+      next_stamp = s.next_stamp;
+    })
+    ∙ (λ i. record {
+      objects = set_back (is_at (nat_cmp o)) s.objects k.0 x' k.1 i;
+      links = s.links;
+      variables = s.variables;
+      next_object = s.next_object;
+      next_stamp = s.next_stamp;
+    })
 taken_back l s (Link d) v f =
     let g : LinkingAgrees l s d = f.agrees in
-    λ i. record { objects = s.objects; links = remove_inserted link_total s.links (d.assoc, d.stamp) (d.first, d.second) (link_free l s d f) i; variables = s.variables; next_object = s.next_object; next_stamp = g.ends.before i }
+    λ i. record {
+      objects = s.objects;
+      links = remove_inserted link_total s.links (d.assoc, d.stamp) (d.first, d.second)
+          (link_free l s d f) i;
+      variables = s.variables;
+      next_object = s.next_object;
+      next_stamp = g.ends.before i;
+    }
 taken_back l s (Unlink d) v f =
     let g : UnlinkingAgrees l s d = f.agrees in
     let k = faultless l s (Unlink d) f.faultless in
     let there = stamp_is l s d v.links.ordered g (turned (is_linked s d) k.there) in
-    λ i. record { objects = s.objects; links = insert_removed link_total link_exact s.links (d.assoc, d.stamp) (d.first, d.second) v.links.ordered there i; variables = s.variables; next_object = s.next_object; next_stamp = g.ends.before i }
+    λ i. record {
+      objects = s.objects;
+      links = insert_removed link_total link_exact s.links (d.assoc, d.stamp)
+          (d.first, d.second) v.links.ordered there i;
+      variables = s.variables;
+      next_object = s.next_object;
+      next_stamp = g.ends.before i;
+    }
 taken_back l s (Bind name old new) v f = let g : BindingAgrees s name old new = f.agrees in unbound l s name old new v.variables.ordered g.same
 taken_back l s (Unbind name old) v f =
     let g : variable s name ≡ Some old = f.agrees in
-    λ i. record { objects = s.objects; links = s.links; variables = insert_removed nat_list_cmp_total exact_bytes s.variables name old v.variables.ordered g i; next_object = s.next_object; next_stamp = s.next_stamp }
+    λ i. record {
+      objects = s.objects;
+      links = s.links;
+      variables = insert_removed nat_list_cmp_total exact_bytes s.variables name old v.variables.ordered g i;
+      next_object = s.next_object;
+      next_stamp = s.next_stamp;
+    }

@@ -21,7 +21,8 @@ use Rattle.object_state.proofs.Keyed.{some≢none}
 
 part : {K X : Type 0} (f : X → ℕ) (test : K → Bool) (es : List (K × X)) (x : X) → lookup test es ≡ Some x → f x ≤ sum_by f (values_of es)
 part f test es x e =
-    let k = subst (λ u. sum_by f (values_of (remove_entry test es)) + unwrap_or (option_map f u) 0 ≡ sum_by f (values_of es)) e (sum_by-remove_entry f test es) in
+    let k = subst (λ u. sum_by f (values_of (remove_entry test es)) + unwrap_or (option_map f u) 0 ≡ sum_by f (values_of es)) e
+    (sum_by-remove_entry f test es) in
     omega arith
 
 pub object_part : (s : State) (o : ℕ) (x : Object) → object s o ≡ Some x → object_weight x ≤ weight s
@@ -43,7 +44,8 @@ slot_of : (p : Option ℕ) (x : Object) (v : Value) → option_and_then (slice_g
 slot_of None x v e = absurd (some≢none v (sym e))
 slot_of (Some i) x v e = one_of x.slots i v e
 
-pub old_slot_fits : (l : Layout) (s : State) (o a : ℕ) (old new : Value) → IsValid l s → SettingAgrees l s o a old new → is_gone s o ≡ false → size_of old ≤ max_weight
+pub old_slot_fits : (l : Layout) (s : State) (o a : ℕ) (old new : Value) → IsValid l s → SettingAgrees l s o a old new → is_gone s o ≡ false
+    → size_of old ≤ max_weight
 old_slot_fits l s o a old new v g h =
     let x = live (object s o) h in
     let one = slot_of (place l (x.0).class a) x.0 old (g.same x.0 x.1) in

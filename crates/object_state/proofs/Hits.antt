@@ -111,17 +111,20 @@ has_more cells [] x = or_false (has_cell cells x)
     or_false true = refl
     or_false false = refl
 has_more cells (y ∷ ys) x =
-    has_more (insert_key cell_cmp cells y) ys x ∙ ap (λ b. b || has_cell ys x) (has_insert cells y x) ∙ join_or (is_at (cell_cmp x) y) (has_cell cells x) (has_cell ys x)
+    has_more (insert_key cell_cmp cells y) ys x ∙ ap (λ b. b || has_cell ys x) (has_insert cells y x)
+    ∙ join_or (is_at (cell_cmp x) y) (has_cell cells x) (has_cell ys x)
 
 with_append : (cells a b : List Cell) → with_cells (with_cells cells a) b ≡ with_cells cells (a ++ b)
 with_append cells [] b = refl
 with_append cells (x ∷ xs) b = with_append (insert_key cell_cmp cells x) xs b
 
 -- a cell, and three lists one after another
-pub gathered : (s s1 s2 s3 s4 : List Cell) (k : Cell) (a b c : List Cell) → s1 ≡ insert_key cell_cmp s k → s2 ≡ with_cells s1 a → s3 ≡ with_cells s2 b → s4 ≡ with_cells s3 c
+pub gathered : (s s1 s2 s3 s4 : List Cell) (k : Cell) (a b c : List Cell) → s1 ≡ insert_key cell_cmp s k → s2 ≡ with_cells s1 a → s3 ≡ with_cells s2 b
+    → s4 ≡ with_cells s3 c
     → s4 ≡ with_cells s (k ∷ a ++ b ++ c)
 gathered s s1 s2 s3 s4 k a b c p q r t =
-    t ∙ ap (λ l. with_cells l c) (r ∙ ap (λ l. with_cells l b) (q ∙ ap (λ l. with_cells l a) p) ∙ with_append (insert_key cell_cmp s k) a b) ∙ with_append (insert_key cell_cmp s k) (a ++ b) c
+    t ∙ ap (λ l. with_cells l c) (r ∙ ap (λ l. with_cells l b) (q ∙ ap (λ l. with_cells l a) p) ∙ with_append (insert_key cell_cmp s k) a b)
+    ∙ with_append (insert_key cell_cmp s k) (a ++ b) c
 
 -- lists of one form
 none_of : {A : Type 0} (x : Cell) (f : A → Cell) (ys : List A) → ((a : A) → same x (f a) ≡ false) → list_any (same x) (map f ys) ≡ false
@@ -145,7 +148,8 @@ extents_hit c [] = refl
 extents_hit c (d ∷ ds) = ap (λ z. nat_eq c d || z) (extents_hit c ds)
 
 -- navigations
-one_none : (l : Layout) (d : ObjectChange) (a : ℕ) (ends : AssocLayout) (from to : End) (x : Cell) → same x (Nav a to d.object) ≡ false → list_any (same x) (navs_to l d a ends from to) ≡ false
+one_none : (l : Layout) (d : ObjectChange) (a : ℕ) (ends : AssocLayout) (from to : End) (x : Cell) → same x (Nav a to d.object) ≡ false
+    → list_any (same x) (navs_to l d a ends from to) ≡ false
 one_none l d a ends from to x h = by (is_a l d.class (class_at ends from))
   where
     by : (b : Bool) → list_any (same x) (cond b (Nav a to d.object ∷ []) []) ≡ false
@@ -188,7 +192,8 @@ one_hit l d a p ends from to = by (is_a l d.class (class_at ends from))
 differ : (a b : ℕ) → a < b → nat_eq a b ≡ false
 differ a b h = by_test (nat_eq a b) (λ y. let e = eqb-true a b y in absurd (omega arith)) (λ n. n)
 
-first_navs : (l : Layout) (d : ObjectChange) (a p : ℕ) (e : End) (ends : AssocLayout) → list_any (same (Nav a e p)) (navs l d a ends) ≡ (nat_eq p d.object && is_a l d.class (class_at ends (opposite e)))
+first_navs : (l : Layout) (d : ObjectChange) (a p : ℕ) (e : End) (ends : AssocLayout) → list_any (same (Nav a e p)) (navs l d a ends) ≡ (nat_eq p d.object
+    && is_a l d.class (class_at ends (opposite e)))
 first_navs l d a p First ends =
     list_any-append (same (Nav a First p)) (navs_to l d a ends Second First) (navs_to l d a ends First Second)
     ∙ ap₂ (λ u v. u || v) (one_hit l d a p ends Second First) (one_none l d a ends First Second (Nav a First p) (other (nat_eq a a)))
@@ -210,7 +215,8 @@ first_navs l d a p Second ends =
     other false = refl
 
 navs_hit : (l : Layout) (d : ObjectChange) (n k p : ℕ) (e : End) (ys : List AssocLayout)
-    → list_any (same (Nav (n + k) e p)) (flat_map (λ a. navs l d a.0 a.1) (enumerate_from n ys)) ≡ (nat_eq p d.object && option_map_or (λ x. is_a l d.class (class_at x (opposite e))) (slice_get ys k) false)
+    → list_any (same (Nav (n + k) e p)) (flat_map (λ a. navs l d a.0 a.1) (enumerate_from n ys)) ≡ (nat_eq p d.object
+    && option_map_or (λ x. is_a l d.class (class_at x (opposite e))) (slice_get ys k) false)
 navs_hit l d n k p e [] = and_false (nat_eq p d.object)
   where
     and_false : (a : Bool) → false ≡ (a && false)
@@ -230,11 +236,13 @@ navs_hit l d n zero p e (a ∷ ys) =
 navs_hit l d n (suc k) p e (a ∷ ys) =
     let e1 : n + suc k ≡ (n + 1) + k = omega arith in
     let apart : (f : End) → same (Nav (n + suc k) e p) (Nav n f d.object) ≡ false
-    = λ f. ap (λ z. z && same_end e f && nat_eq p d.object) (by_test (nat_eq (n + suc k) n) (λ y. let q = eqb-true (n + suc k) n y in absurd (omega arith)) (λ m. m)) in
+    = λ f. ap (λ z. z && same_end e f && nat_eq p d.object) (by_test (nat_eq (n + suc k) n) (λ y. let q = eqb-true (n + suc k) n y
+    in absurd (omega arith)) (λ m. m)) in
     list_any-append (same (Nav (n + suc k) e p)) (navs l d n a) (flat_map (λ a. navs l d a.0 a.1) (enumerate_from (n + 1) ys))
     ∙ ap₂ (λ u v. u || v)
     (list_any-append (same (Nav (n + suc k) e p)) (navs_to l d n a Second First) (navs_to l d n a First Second)
-    ∙ ap₂ (λ u v. u || v) (one_none l d n a Second First (Nav (n + suc k) e p) (apart First)) (one_none l d n a First Second (Nav (n + suc k) e p) (apart Second)))
+    ∙ ap₂ (λ u v. u || v) (one_none l d n a Second First (Nav (n + suc k) e p) (apart First)) (one_none l d n a First Second (Nav (n + suc k) e p)
+    (apart Second)))
     (ap (λ (m : ℕ). list_any (same (Nav m e p)) (flat_map (λ a. navs l d a.0 a.1) (enumerate_from (n + 1) ys))) e1 ∙ navs_hit l d (n + 1) k p e ys)
 
 -- the cells of an object
@@ -248,7 +256,8 @@ three : (l : Layout) (d : ObjectChange) (x : Cell) (a b c e : Bool) → same x (
     → list_any (same x) (flat_map (λ a. navs l d a.0 a.1) (enumerate_from 0 l.assocs)) ≡ c → list_any (same x) (map Extent (ancestors l d.class)) ≡ e
     → list_any (same x) (cells_of l d) ≡ (a || b || c || e)
 three l d x a b c e p q r t =
-    list_any-append (same x) (Kind d.object ∷ map (Slot d.object) (attrs l d.class) ++ flat_map (λ a. navs l d a.0 a.1) (enumerate_from 0 l.assocs)) (map Extent (ancestors l d.class))
+    list_any-append (same x) (Kind d.object ∷ map (Slot d.object) (attrs l d.class) ++ flat_map (λ a. navs l d a.0 a.1) (enumerate_from 0 l.assocs)) (map Extent
+    (ancestors l d.class))
     ∙ ap₂ (λ y z. y || z)
     (list_any-append (same x) (Kind d.object ∷ map (Slot d.object) (attrs l d.class)) (flat_map (λ a. navs l d a.0 a.1) (enumerate_from 0 l.assocs))
     ∙ ap₂ (λ y z. y || z) (ap₂ (λ y z. y || z) p q) r)
@@ -279,7 +288,8 @@ cells_hit l d (Slot p b) =
     ∙ only_second (nat_eq p d.object && list_any (nat_eq b) (attrs l d.class))
 cells_hit l d (Nav a e p) =
     has_same (cells_of l d) (Nav a e p)
-    ∙ three l d (Nav a e p) false false (nat_eq p d.object && may_stand l a (opposite e) d.class) false refl (none_of (Nav a e p) (Slot d.object) (attrs l d.class) (λ a. refl))
+    ∙ three l d (Nav a e p) false false (nat_eq p d.object && may_stand l a (opposite e) d.class) false refl (none_of (Nav a e p) (Slot d.object)
+    (attrs l d.class) (λ a. refl))
     (ap (λ (m : ℕ). list_any (same (Nav m e p)) (flat_map (λ a. navs l d a.0 a.1) (enumerate_from 0 l.assocs))) (zeroed a) ∙ navs_hit l d 0 a p e l.assocs)
     (none_of (Nav a e p) Extent (ancestors l d.class) (λ a. refl))
     ∙ only_third (nat_eq p d.object && may_stand l a (opposite e) d.class)

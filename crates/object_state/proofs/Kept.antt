@@ -91,8 +91,10 @@ created l s d v f =
       counter = g.after;
       instances = λ o x e. ⊎_elim (λ new. subst (IsInstance l) new.1 here) (λ old. v.objects.instances o x old) (found o x e);
       names = λ o p x y e e' same. ⊎_elim
-          (λ new. ⊎_elim (λ new'. new.0 ∙ sym new'.0) (λ old'. absurd (name_free s d.name n.0 p y old' (sym same ∙ sym (ap (λ (z : Object). z.name) new.1)))) (found p y e'))
-          (λ old. ⊎_elim (λ new'. absurd (name_free s d.name n.0 o x old (same ∙ sym (ap (λ (z : Object). z.name) new'.1)))) (λ old'. v.objects.names o p x y old old' same) (found p y e'))
+          (λ new. ⊎_elim (λ new'. new.0 ∙ sym new'.0) (λ old'. absurd (name_free s d.name n.0 p y old' (sym same
+          ∙ sym (ap (λ (z : Object). z.name) new.1)))) (found p y e'))
+          (λ old. ⊎_elim (λ new'. absurd (name_free s d.name n.0 o x old (same ∙ sym (ap (λ (z : Object). z.name) new'.1))))
+          (λ old'. v.objects.names o p x y old old' same) (found p y e'))
           (found o x e);
       below = λ o x e. ⊎_elim (λ new. subst (λ (z : ℕ). z < d.after) (sym new.0) (g.number below)) (λ old. g.others below o x old) (found o x e);
     } in
@@ -100,7 +102,8 @@ created l s d v f =
       objects = objects;
       links = v.links;
       variables = v.variables;
-      apart = λ o x e. ⊎_elim (λ new. ap (λ (z : Object). variable s z.name) (sym new.1) ∙ not_some (variable s d.name) n.1) (λ old. v.apart o x old) (found o x e);
+      apart = λ o x e. ⊎_elim (λ new. ap (λ (z : Object). variable s z.name) (sym new.1) ∙ not_some (variable s d.name) n.1) (λ old. v.apart o x old)
+          (found o x e);
       joins = λ key pair e. let j = v.joins key pair e in
           let stay : (o : ℕ) (x : Object) → object s o ≡ Some x → (y : Object) × (object (apply l s (Create d)) o ≡ Some y) × (y.class ≡ x.class)
           = λ o x e. (x, kept_insert nat_cmp_total exact_unsigned s.objects d.object (object_of d) o x free e, refl) in
@@ -132,7 +135,8 @@ removed l s d v f =
       apart = λ o x e. v.apart o x (found o x e).0;
       joins = λ key pair e. let j = v.joins key pair e in
           let away = g.unlinked key pair e in
-          let stay : (o : ℕ) → o ≢ d.object → (x : Object) → object s o ≡ Some x → (y : Object) × (object (apply l s (Remove d)) o ≡ Some y) × (y.class ≡ x.class)
+          let stay : (o : ℕ) → o ≢ d.object → (x : Object) → object s o ≡ Some x → (y : Object) × (object (apply l s (Remove d)) o ≡ Some y) ×
+          (y.class ≡ x.class)
           = λ o ne x e. (x, kept_remove nat_cmp_total exact_unsigned s.objects d.object o x v.objects.ordered ne e, refl) in
           record {
             first = stands_on l s (apply l s (Remove d)) key.0 First pair.0 (stay pair.0 away.0) j.first;
@@ -144,7 +148,13 @@ removed l s d v f =
 -- a slot gets another value
 whole_set_at : (l : Layout) (p : Option ℕ) (x : Object) (v : Value) → IsInstance l x → IsWellMade v → IsInstance l (set_at p x v)
 whole_set_at l None x v i w = i
-whole_set_at l (Some at) x v i w = record { known = i.known; concrete = i.concrete; whole = length-set x.slots at v ∙ i.whole; values = All-set IsWellMade x.slots at v w i.values }
+whole_set_at l (Some at) x v i w = record {
+  known = i.known;
+  concrete = i.concrete;
+  whole = length-set x.slots at v
+      ∙ i.whole;
+  values = All-set IsWellMade x.slots at v w i.values;
+}
 
 pub set : (l : Layout) (s : State) (o a : ℕ) (old new : Value) → IsValid l s → Fits l s (SetSlot o a old new) → IsValid l (apply l s (SetSlot o a old new))
 set l s o a old new v f =
@@ -158,12 +168,18 @@ set l s o a old new v f =
     let name : x'.name ≡ (k.0).name = name_set_at at k.0 new in
     let class : x'.class ≡ (k.0).class = class_set_at at k.0 new in
     let named : (p : ℕ) (y : Object) → object t p ≡ Some y → (z : Object) × (object s p ≡ Some z) × (y.name ≡ z.name)
-    = λ p y e. ⊎_elim (λ new. (k.0, ap (λ (q : ℕ). object s q) new.0 ∙ k.1, ap (λ (z : Object). z.name) (sym new.1) ∙ name)) (λ old. (y, old, refl)) (found p y e) in
+    = λ p y e. ⊎_elim (λ new. (
+      k.0,
+      ap (λ (q : ℕ). object s q) new.0 ∙ k.1,
+      ap (λ (z : Object). z.name) (sym new.1)
+          ∙ name,
+    )) (λ old. (y, old, refl)) (found p y e) in
     let objects : ObjectsAreValid l t.objects s.next_object = record {
       ordered = subst (IsStrictlySortedBy nat_cmp) (sym (keys-set_value (is_at (nat_cmp o)) s.objects x')) v.objects.ordered;
       fit = subst (λ (n : ℕ). n ≤ max_objects) (sym (length-set_value (is_at (nat_cmp o)) s.objects x')) v.objects.fit;
       counter = v.objects.counter;
-      instances = λ p y e. ⊎_elim (λ new. subst (IsInstance l) new.1 (whole_set_at l at k.0 _ (v.objects.instances o k.0 k.1) g.values.1)) (λ old. v.objects.instances p y old) (found p y e);
+      instances = λ p y e. ⊎_elim (λ new. subst (IsInstance l) new.1 (whole_set_at l at k.0 _ (v.objects.instances o k.0 k.1) g.values.1))
+          (λ old. v.objects.instances p y old) (found p y e);
       names = λ p q y z e e' same. let r = named p y e in let r' = named q z e' in v.objects.names p q r.0 r'.0 r.1 r'.1 (sym r.2 ∙ same ∙ r'.2);
       below = λ p y e. let r = named p y e in v.objects.below p r.0 r.1;
     } in
@@ -202,14 +218,17 @@ linked l s d v f =
       counter = g.ends.after;
       once = λ m n p e e' same. ⊎_elim
           (λ new. ⊎_elim (λ new'. ap (λ (z : ℕ × ℕ). z.1) (new.0 ∙ sym new'.0))
-          (λ old'. absurd (link_missing s d.assoc d.first d.second none n (old' ∙ ap (λ (z : ℕ × ℕ). Some z) (sym new.1)) (sym same ∙ ap (λ (z : ℕ × ℕ). z.0) new.0))) (found n p e'))
-          (λ old. ⊎_elim (λ new'. absurd (link_missing s d.assoc d.first d.second none m (old ∙ ap (λ (z : ℕ × ℕ). Some z) (sym new'.1)) (same ∙ ap (λ (z : ℕ × ℕ). z.0) new'.0)))
+          (λ old'. absurd (link_missing s d.assoc d.first d.second none n (old' ∙ ap (λ (z : ℕ × ℕ). Some z) (sym new.1)) (sym same
+          ∙ ap (λ (z : ℕ × ℕ). z.0) new.0))) (found n p e'))
+          (λ old. ⊎_elim (λ new'. absurd (link_missing s d.assoc d.first d.second none m (old ∙ ap (λ (z : ℕ × ℕ). Some z) (sym new'.1)) (same
+          ∙ ap (λ (z : ℕ × ℕ). z.0) new'.0)))
           (λ old'. v.links.once m n p old old' same) (found n p e'))
           (found m p e);
       stamps = λ m n p q e e' same. ⊎_elim
           (λ new. ⊎_elim (λ new'. ap (λ (z : ℕ × ℕ). z.0) (new.0 ∙ sym new'.0))
           (λ old'. absurd (g.free below n q old' (sym same ∙ ap (λ (z : ℕ × ℕ). z.1) new.0))) (found n q e'))
-          (λ old. ⊎_elim (λ new'. absurd (g.free below m p old (same ∙ ap (λ (z : ℕ × ℕ). z.1) new'.0))) (λ old'. v.links.stamps m n p q old old' same) (found n q e'))
+          (λ old. ⊎_elim (λ new'. absurd (g.free below m p old (same ∙ ap (λ (z : ℕ × ℕ). z.1) new'.0))) (λ old'. v.links.stamps m n p q old old' same)
+          (found n q e'))
           (found m p e);
       below = λ m p e. ⊎_elim (λ new. subst (λ (z : ℕ × ℕ). z.1 < d.after) (sym new.0) (g.stamp below)) (λ old. g.others below m p old) (found m p e);
     } in
@@ -221,8 +240,10 @@ linked l s d v f =
       joins = λ m p e. ⊎_elim
           (λ new. subst (λ (z : ℕ). Joins l (apply l s (Link d)) z p) (sym (ap (λ (z : ℕ × ℕ). z.0) new.0)) (subst (Joins l (apply l s (Link d)) d.assoc) new.1
           (record {
-            first = ap (λ (u : Option Object). option_map_or (λ (x : Object). may_stand l d.assoc First x.class) u false) ends.0.1 ∙ g.ends.first ends.0.0 ends.0.1;
-            second = ap (λ (u : Option Object). option_map_or (λ (x : Object). may_stand l d.assoc Second x.class) u false) ends.1.1 ∙ g.ends.second ends.1.0 ends.1.1;
+            first = ap (λ (u : Option Object). option_map_or (λ (x : Object). may_stand l d.assoc First x.class) u false) ends.0.1
+                ∙ g.ends.first ends.0.0 ends.0.1;
+            second = ap (λ (u : Option Object). option_map_or (λ (x : Object). may_stand l d.assoc Second x.class) u false) ends.1.1
+                ∙ g.ends.second ends.1.0 ends.1.1;
           })))
           (λ old. let j = v.joins m p old in record { first = j.first; second = j.second })
           (found m p e);
@@ -255,7 +276,8 @@ unlinked l s d v f =
     }
 
 -- a variable gets a value
-pub bound : (l : Layout) (s : State) (name : List ℕ) (old : Option Variable) (new : Variable) → IsValid l s → Fits l s (Bind name old new) → IsValid l (apply l s (Bind name old new))
+pub bound : (l : Layout) (s : State) (name : List ℕ) (old : Option Variable) (new : Variable) → IsValid l s → Fits l s (Bind name old new)
+    → IsValid l (apply l s (Bind name old new))
 bound l s name old new v f =
     let g : BindingAgrees s name old new = f.agrees in
     let k = faultless l s (Bind name old new) f.faultless in

@@ -35,7 +35,8 @@ equal Greater h = absurd (true≢false (sym h))
 pub some≢none : {X : Type 0} (x : X) → Some x ≡ None → ⊥
 some≢none x e = true≢false (ap is_some e)
 
-pub all_remove : {K X : Type 0} (P : K → Type 0) (test : K → Bool) (es : List (K × X)) → AllByRecursion P (keys_of es) → AllByRecursion P (keys_of (remove_entry test es))
+pub all_remove : {K X : Type 0} (P : K → Type 0) (test : K → Bool) (es : List (K × X)) → AllByRecursion P (keys_of es)
+    → AllByRecursion P (keys_of (remove_entry test es))
 all_remove P test [] a = a
 all_remove P test (e ∷ es) a =
     by_test (test e.0)
@@ -74,7 +75,12 @@ find_none p [] n test v e = absurd (some≢none v (sym e))
 find_none p (x ∷ xs) n test v e =
     let here = refused (p x) x (find p xs) n in
     by_test (test x.0)
-    (λ y. let value : x.1 ≡ v = inside_some x.1 v (sym (ap (λ b. cond b (Some x.1) (lookup test xs)) y) ∙ e) in (x.0, y, sym (ap (λ z. p (x.0, z)) value) ∙ here.0))
+    (λ y. let value : x.1 ≡ v = inside_some x.1 v (sym (ap (λ b. cond b (Some x.1) (lookup test xs)) y) ∙ e) in (
+      x.0,
+      y,
+      sym (ap (λ z. p (x.0, z)) value)
+          ∙ here.0,
+    ))
     (λ m. find_none p xs here.1 test v (sym (ap (λ b. cond b (Some x.1) (lookup test xs)) m) ∙ e))
   where
     refused : {A : Type 0} (b : Bool) (a : A) (o : Option A) → cond b (Some a) o ≡ None → (b ≡ false) × (o ≡ None)
@@ -94,7 +100,8 @@ module _ {K X : Type 0} {R : K → K → Ordering} (o : IsTotalOrder R) where
       (λ n. below_found xs a k v all.1 (sym (ap (λ b. cond b (Some x.1) (lookup (is_at (R k)) xs)) n) ∙ e))
 
   -- what a search finds, a look-up of its key finds
-  pub find_some : (p : K × X → Bool) (es : List (K × X)) (e : K × X) → find p es ≡ Some e → IsStrictlySortedBy R (keys_of es) → (lookup (is_at (R e.0)) es ≡ Some e.1) × (p e ≡ true)
+  pub find_some : (p : K × X → Bool) (es : List (K × X)) (e : K × X) → find p es ≡ Some e → IsStrictlySortedBy R (keys_of es)
+      → (lookup (is_at (R e.0)) es ≡ Some e.1) × (p e ≡ true)
   unfolding IsStrictlySortedBy
   find_some p [] e h s = absurd (some≢none e (sym h))
   find_some p (x ∷ xs) e h s =
@@ -144,12 +151,15 @@ module _ {K X : Type 0} {R : K → K → Ordering} (o : IsTotalOrder R) where
       (λ n. rw n (all_remove (λ y. R e.0 y ≡ Less) test es s.0, sorted_remove test es s.1))
 
   -- what is found with one more entry
-  pub lookup_insert : (es : List (K × X)) (k : K) (v : X) (q : K) → lookup (is_at (R q)) (insert_entry R es k v) ≡ cond (is_at (R q) k) (Some v) (lookup (is_at (R q)) es)
+  pub lookup_insert : (es : List (K × X)) (k : K) (v : X) (q : K) → lookup (is_at (R q)) (insert_entry R es k v) ≡ cond (is_at (R q) k) (Some v) (lookup (is_at
+      (R q)) es)
   lookup_insert [] k v q = refl
   lookup_insert (e ∷ es) k v q =
-      match_all (λ l. lookup (is_at (R q)) l ≡ cond (is_at (R q) k) (Some v) (lookup (is_at (R q)) (e ∷ es))) (R k e.0) ((k, v) ∷ e ∷ es) ((e.0, v) ∷ es) (e ∷ insert_entry R es k v)
+      match_all (λ l. lookup (is_at (R q)) l ≡ cond (is_at (R q) k) (Some v) (lookup (is_at (R q)) (e ∷ es))) (R k e.0) ((k, v) ∷ e ∷ es) ((e.0, v) ∷ es) (e
+      ∷ insert_entry R es k v)
       (λ _. refl)
-      (λ t. ap (λ r. cond (is_eq r) (Some v) (lookup (is_at (R q)) es)) (sym (alike_right o k e.0 q t)) ∙ twice (is_at (R q) k) (is_at (R q) e.0) (ap is_eq (alike_right o k e.0 q t)))
+      (λ t. ap (λ r. cond (is_eq r) (Some v) (lookup (is_at (R q)) es)) (sym (alike_right o k e.0 q t))
+      ∙ twice (is_at (R q) k) (is_at (R q) e.0) (ap is_eq (alike_right o k e.0 q t)))
       (λ g. ap (λ l. cond (is_at (R q) e.0) (Some e.1) l) (lookup_insert es k v q) ∙ crossed (is_at (R q) e.0) (is_at (R q) k) (λ a b. apart a b g))
     where
       twice : (a b : Bool) → a ≡ b → cond a (Some v) (lookup (is_at (R q)) es) ≡ cond a (Some v) (cond b (Some e.1) (lookup (is_at (R q)) es))
@@ -160,7 +170,8 @@ module _ {K X : Type 0} {R : K → K → Ordering} (o : IsTotalOrder R) where
       apart : is_at (R q) e.0 ≡ true → is_at (R q) k ≡ true → R k e.0 ≡ Greater → ⊥
       apart a b g = true≢false (sym (ap is_eq (sym (o.congr q k e.0 (equal _ b)) ∙ equal _ a)) ∙ ap is_eq g)
 
-      crossed : (a b : Bool) → (a ≡ true → b ≡ true → ⊥) → cond a (Some e.1) (cond b (Some v) (lookup (is_at (R q)) es)) ≡ cond b (Some v) (cond a (Some e.1) (lookup (is_at (R q)) es))
+      crossed : (a b : Bool) → (a ≡ true → b ≡ true → ⊥) → cond a (Some e.1) (cond b (Some v) (lookup (is_at (R q)) es)) ≡ cond b (Some v) (cond a (Some e.1)
+          (lookup (is_at (R q)) es))
       crossed true true h = absurd (h refl refl)
       crossed true false h = refl
       crossed false b h = refl
@@ -187,12 +198,14 @@ module _ {K X : Type 0} {R : K → K → Ordering} (o : IsTotalOrder R) where
     inside a b e = cc
 
     -- an entry goes, and comes again
-    pub insert_removed : (es : List (K × X)) (k : K) (v : X) → IsStrictlySortedBy R (keys_of es) → lookup (is_at (R k)) es ≡ Some v → insert_entry R (remove_entry (is_at (R k)) es) k v ≡ es
+    pub insert_removed : (es : List (K × X)) (k : K) (v : X) → IsStrictlySortedBy R (keys_of es) → lookup (is_at (R k)) es ≡ Some v
+        → insert_entry R (remove_entry (is_at (R k)) es) k v ≡ es
     unfolding IsStrictlySortedBy
     insert_removed [] k v s e = absurd (some≢none v (sym e))
     insert_removed (x ∷ xs) k v s e =
         by_order (R k x.0)
-        (λ l. absurd (some≢none v (sym e ∙ ap (λ r. cond (is_eq r) (Some x.1) (lookup (is_at (R k)) xs)) l ∙ lookup_first xs k (all_above o k x.0 (keys_of xs) l s.0))))
+        (λ l. absurd (some≢none v (sym e ∙ ap (λ r. cond (is_eq r) (Some x.1) (lookup (is_at (R k)) xs)) l
+        ∙ lookup_first xs k (all_above o k x.0 (keys_of xs) l s.0))))
         (λ t.
         let value : x.1 ≡ v = inside x.1 v (sym (ap (λ r. cond (is_eq r) (Some x.1) (lookup (is_at (R k)) xs)) t) ∙ e) in
         let key : k ≡ x.0 = exact k x.0 t in
@@ -200,12 +213,14 @@ module _ {K X : Type 0} {R : K → K → Ordering} (o : IsTotalOrder R) where
         (λ g. rw g (rw g (ap (λ l. x ∷ l) (insert_removed xs k v s.1 (sym (ap (λ r. cond (is_eq r) (Some x.1) (lookup (is_at (R k)) xs)) g) ∙ e)))))
 
     -- another value comes at a key, and the old one again
-    pub insert_back : (es : List (K × X)) (k : K) (v w : X) → IsStrictlySortedBy R (keys_of es) → lookup (is_at (R k)) es ≡ Some v → insert_entry R (insert_entry R es k w) k v ≡ es
+    pub insert_back : (es : List (K × X)) (k : K) (v w : X) → IsStrictlySortedBy R (keys_of es) → lookup (is_at (R k)) es ≡ Some v
+        → insert_entry R (insert_entry R es k w) k v ≡ es
     unfolding IsStrictlySortedBy
     insert_back [] k v w s e = absurd (some≢none v (sym e))
     insert_back (x ∷ xs) k v w s e =
         by_order (R k x.0)
-        (λ l. absurd (some≢none v (sym e ∙ ap (λ r. cond (is_eq r) (Some x.1) (lookup (is_at (R k)) xs)) l ∙ lookup_first xs k (all_above o k x.0 (keys_of xs) l s.0))))
+        (λ l. absurd (some≢none v (sym e ∙ ap (λ r. cond (is_eq r) (Some x.1) (lookup (is_at (R k)) xs)) l
+        ∙ lookup_first xs k (all_above o k x.0 (keys_of xs) l s.0))))
         (λ t.
         let value : x.1 ≡ v = inside x.1 v (sym (ap (λ r. cond (is_eq r) (Some x.1) (lookup (is_at (R k)) xs)) t) ∙ e) in
         rw t (rw t (λ i. (x.0, sym value i) ∷ xs)))
@@ -213,7 +228,8 @@ module _ {K X : Type 0} {R : K → K → Ordering} (o : IsTotalOrder R) where
 
 -- a selection, with one more entry: it has one more where that entry passes, and stays as it is where not
 module _ {K X : Type 0} {R : K → K → Ordering} (o : IsTotalOrder R) (p : K × X → Bool) where
-  pub filter_insert_out : (es : List (K × X)) (k : K) (v : X) → lookup (is_at (R k)) es ≡ None → p (k, v) ≡ false → filter p (insert_entry R es k v) ≡ filter p es
+  pub filter_insert_out : (es : List (K × X)) (k : K) (v : X) → lookup (is_at (R k)) es ≡ None → p (k, v) ≡ false
+      → filter p (insert_entry R es k v) ≡ filter p es
   filter_insert_out [] k v n f = rw f refl
   filter_insert_out (e ∷ es) k v n f =
       by_order (R k e.0)
@@ -221,7 +237,8 @@ module _ {K X : Type 0} {R : K → K → Ordering} (o : IsTotalOrder R) (p : K �
       (λ t. absurd (some≢none e.1 (sym (ap (λ r. cond (is_eq r) (Some e.1) (lookup (is_at (R k)) es)) t) ∙ n)))
       (λ g. rw g (ap (λ l. cond (p e) (e ∷ l) l) (filter_insert_out es k v (sym (ap (λ r. cond (is_eq r) (Some e.1) (lookup (is_at (R k)) es)) g) ∙ n) f)))
 
-  pub filter_insert_in : (es : List (K × X)) (k : K) (v : X) → lookup (is_at (R k)) es ≡ None → p (k, v) ≡ true → length (filter p (insert_entry R es k v)) ≡ suc (length (filter p es))
+  pub filter_insert_in : (es : List (K × X)) (k : K) (v : X) → lookup (is_at (R k)) es ≡ None → p (k, v) ≡ true
+      → length (filter p (insert_entry R es k v)) ≡ suc (length (filter p es))
   filter_insert_in [] k v n f = rw f refl
   filter_insert_in (e ∷ es) k v n f =
       by_order (R k e.0)
@@ -229,12 +246,14 @@ module _ {K X : Type 0} {R : K → K → Ordering} (o : IsTotalOrder R) (p : K �
       (λ t. absurd (some≢none e.1 (sym (ap (λ r. cond (is_eq r) (Some e.1) (lookup (is_at (R k)) es)) t) ∙ n)))
       (λ g. rw g (one (p e) (filter_insert_in es k v (sym (ap (λ r. cond (is_eq r) (Some e.1) (lookup (is_at (R k)) es)) g) ∙ n) f)))
     where
-      one : (b : Bool) → length (filter p (insert_entry R es k v)) ≡ suc (length (filter p es)) → length (cond b (e ∷ filter p (insert_entry R es k v)) (filter p (insert_entry R es k v))) ≡ suc (length (cond b (e ∷ filter p es) (filter p es)))
+      one : (b : Bool) → length (filter p (insert_entry R es k v)) ≡ suc (length (filter p es)) → length (cond b (e
+          ∷ filter p (insert_entry R es k v)) (filter p (insert_entry R es k v))) ≡ suc (length (cond b (e ∷ filter p es) (filter p es)))
       one true h = ap suc h
       one false h = h
 
 -- how long a list is with one more entry, and with one less
-pub length_insert : {K X : Type 0} (R : K → K → Ordering) (es : List (K × X)) (k : K) (v : X) → lookup (is_at (R k)) es ≡ None → length (insert_entry R es k v) ≡ suc (length es)
+pub length_insert : {K X : Type 0} (R : K → K → Ordering) (es : List (K × X)) (k : K) (v : X) → lookup (is_at (R k)) es ≡ None
+    → length (insert_entry R es k v) ≡ suc (length es)
 length_insert R [] k v n = refl
 length_insert R (e ∷ es) k v n =
     by_order (R k e.0)
@@ -271,10 +290,13 @@ module _ {K X : Type 0} {R : K → K → Ordering} (o : IsTotalOrder R) (exact :
   pub put_insert : (es : List (K × X)) (k : K) (v : X) → lookup (is_at (R k)) (insert_entry R es k v) ≡ Some v
   put_insert es k v = lookup_insert o es k v k ∙ ap (λ r. cond (is_eq r) (Some v) (lookup (is_at (R k)) es)) (tied_itself o k)
 
-  lookup_remove : (es : List (K × X)) (k q : K) → IsStrictlySortedBy R (keys_of es) → lookup (is_at (R q)) (remove_entry (is_at (R k)) es) ≡ cond (is_at (R k) q) None (lookup (is_at (R q)) es)
-  lookup_remove es k q s = lookup-remove_entry (eq_by_cmp_equiv o) (is_at (R k)) (λ x y t. ap is_eq (o.congr k x y (equal _ t))) q es (IsDistinct-from_sorted R (keys_of es) s)
+  lookup_remove : (es : List (K × X)) (k q : K) → IsStrictlySortedBy R (keys_of es) → lookup (is_at (R q)) (remove_entry (is_at (R k)) es) ≡ cond (is_at
+      (R k) q) None (lookup (is_at (R q)) es)
+  lookup_remove es k q s = lookup-remove_entry (eq_by_cmp_equiv o) (is_at (R k)) (λ x y t. ap is_eq (o.congr k x y (equal _ t))) q es (IsDistinct-from_sorted R
+      (keys_of es) s)
 
-  pub found_remove : (es : List (K × X)) (k : K) (q : K) (x : X) → IsStrictlySortedBy R (keys_of es) → lookup (is_at (R q)) (remove_entry (is_at (R k)) es) ≡ Some x
+  pub found_remove : (es : List (K × X)) (k : K) (q : K) (x : X) → IsStrictlySortedBy R (keys_of es)
+      → lookup (is_at (R q)) (remove_entry (is_at (R k)) es) ≡ Some x
       → (lookup (is_at (R q)) es ≡ Some x) × (q ≢ k)
   found_remove es k q x s e =
       by_test (is_at (R k) q)
@@ -294,17 +316,24 @@ module _ {K X : Type 0} {R : K → K → Ordering} (o : IsTotalOrder R) (exact :
   pub gone_remove : (es : List (K × X)) (k : K) → IsStrictlySortedBy R (keys_of es) → lookup (is_at (R k)) (remove_entry (is_at (R k)) es) ≡ None
   gone_remove es k s = lookup_remove es k k s ∙ ap (λ r. cond (is_eq r) None (lookup (is_at (R k)) es)) (tied_itself o k)
 
-  lookup_set : (es : List (K × X)) (k q : K) (w v : X) → lookup (is_at (R k)) es ≡ Some v → lookup (is_at (R q)) (set_value (is_at (R k)) es w) ≡ cond (is_at (R k) q) (Some w) (lookup (is_at (R q)) es)
+  lookup_set : (es : List (K × X)) (k q : K) (w v : X) → lookup (is_at (R k)) es ≡ Some v → lookup (is_at (R q)) (set_value (is_at (R k)) es w) ≡ cond (is_at
+      (R k) q) (Some w) (lookup (is_at (R q)) es)
   lookup_set es k q w v e = lookup-set_value (eq_by_cmp_equiv o) (is_at (R k)) (λ x y t. ap is_eq (o.congr k x y (equal _ t))) q w es (rw e refl)
 
-  pub found_set : (es : List (K × X)) (k : K) (w v : X) (q : K) (x : X) → lookup (is_at (R k)) es ≡ Some v → lookup (is_at (R q)) (set_value (is_at (R k)) es w) ≡ Some x
+  pub found_set : (es : List (K × X)) (k : K) (w v : X) (q : K) (x : X) → lookup (is_at (R k)) es ≡ Some v
+      → lookup (is_at (R q)) (set_value (is_at (R k)) es w) ≡ Some x
       → ((q ≡ k) × (w ≡ x)) ⊎ (lookup (is_at (R q)) es ≡ Some x)
   found_set es k w v q x there e =
       by_test (is_at (R k) q)
-      (λ y. inl (sym (exact k q (equal _ y)), inside_some w x (sym (ap (λ b. cond b (Some w) (lookup (is_at (R q)) es)) y) ∙ sym (lookup_set es k q w v there) ∙ e)))
+      (λ y. inl (
+        sym (exact k q (equal _ y)),
+        inside_some w x (sym (ap (λ b. cond b (Some w) (lookup (is_at (R q)) es)) y) ∙ sym (lookup_set es k q w v there)
+            ∙ e),
+      ))
       (λ n. inr (sym (ap (λ b. cond b (Some w) (lookup (is_at (R q)) es)) n) ∙ sym (lookup_set es k q w v there) ∙ e))
 
-  pub kept_set : (es : List (K × X)) (k : K) (w v : X) (q : K) → lookup (is_at (R k)) es ≡ Some v → q ≢ k → lookup (is_at (R q)) (set_value (is_at (R k)) es w) ≡ lookup (is_at (R q)) es
+  pub kept_set : (es : List (K × X)) (k : K) (w v : X) (q : K) → lookup (is_at (R k)) es ≡ Some v → q ≢ k
+      → lookup (is_at (R q)) (set_value (is_at (R k)) es w) ≡ lookup (is_at (R q)) es
   kept_set es k w v q there apart =
       by_test (is_at (R k) q)
       (λ y. absurd (apart (sym (exact k q (equal _ y)))))

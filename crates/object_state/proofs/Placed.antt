@@ -24,7 +24,8 @@ module _ {A : Type 0} (p : A → Bool) where
   later x xs h =
       rw h (by_test (nat_lt (position_or_len p xs) (length xs))
       (λ y. let up = ltb-true _ _ y in
-      rw y (ap (λ b. cond b (Some (1 + position_or_len p xs)) None) (lt-ltb (1 + position_or_len p xs) (suc (length xs)) (omega arith)) ∙ ap (λ (n : ℕ). Some n) (one (position_or_len p xs))))
+      rw y (ap (λ b. cond b (Some (1 + position_or_len p xs)) None) (lt-ltb (1 + position_or_len p xs) (suc (length xs)) (omega arith))
+      ∙ ap (λ (n : ℕ). Some n) (one (position_or_len p xs))))
       (λ n. let down = ltb-false _ _ n in
       rw n (by_test (nat_lt (1 + position_or_len p xs) (suc (length xs)))
       (λ y. let up = ltb-true _ _ y in absurd (omega arith))
@@ -80,7 +81,8 @@ module _ {K X : Type 0} (test : K → Bool) where
       (λ n. let r = placed_later passes (position passes es) i (sym (later passes e es n) ∙ h) in
       step (λ j. lookup_at es j d) r.0 n r.1 r.2)
     where
-      step : ((j : ℕ) → position passes es ≡ Some j → (lookup test es ≡ Some (get_or es j d).1) × (j < length es)) → (j : ℕ) → test e.0 ≡ false → position passes es ≡ Some j → i ≡ suc j
+      step : ((j : ℕ) → position passes es ≡ Some j → (lookup test es ≡ Some (get_or es j d).1) × (j < length es)) → (j : ℕ) → test e.0 ≡ false
+          → position passes es ≡ Some j → i ≡ suc j
           → (lookup test (e ∷ es) ≡ Some (get_or (e ∷ es) i d).1) × (i < length (e ∷ es))
       step ih j n p q = let k = ih j p in let below = k.1 in (rw (q, n) (k.0), omega arith)
 
@@ -92,7 +94,8 @@ module _ {K X : Type 0} (test : K → Bool) where
       (λ n. let r = placed_later passes (position passes es) i (sym (later passes e es n) ∙ h) in
       step (λ j. set_at_place es j d w) r.0 n r.1 r.2)
     where
-      step : ((j : ℕ) → position passes es ≡ Some j → slice_set es j ((get_or es j d).0, w) ≡ set_value test es w) → (j : ℕ) → test e.0 ≡ false → position passes es ≡ Some j → i ≡ suc j
+      step : ((j : ℕ) → position passes es ≡ Some j → slice_set es j ((get_or es j d).0, w) ≡ set_value test es w) → (j : ℕ) → test e.0 ≡ false
+          → position passes es ≡ Some j → i ≡ suc j
           → slice_set (e ∷ es) i ((get_or (e ∷ es) i d).0, w) ≡ set_value test (e ∷ es) w
       step ih j n p q = rw (q, n) (ap (λ l. e ∷ l) (ih j p))
 
@@ -121,7 +124,8 @@ module _ {K X : Type 0} (R : K → K → Ordering) (k : K) (v : X) where
       (λ y. let h = goes_here e es y in omega arith)
       (λ n. let h = goes_later e es n in let r = goes_within es in omega arith)
 
-  equal_gets : (es : List (K × X)) (i : ℕ) (x : K × X) → i ≡ goes es → slice_get es i ≡ Some x → is_at (R k) x.0 ≡ true → slice_set es i (x.0, v) ≡ insert_entry R es k v
+  equal_gets : (es : List (K × X)) (i : ℕ) (x : K × X) → i ≡ goes es → slice_get es i ≡ Some x → is_at (R k) x.0 ≡ true
+      → slice_set es i (x.0, v) ≡ insert_entry R es k v
   equal_gets [] i x e g t = absurd (some≢none x (sym g))
   equal_gets (y ∷ ys) i x e g t =
       by_order (R k y.0)
@@ -134,7 +138,8 @@ module _ {K X : Type 0} (R : K → K → Ordering) (k : K) (v : X) where
       (λ h. let at : i ≡ suc (goes ys) = e ∙ goes_later y ys (ap is_le h) in
       rw (at, h) (ap (λ l. y ∷ l) (equal_gets ys (goes ys) x refl (subst (λ (n : ℕ). slice_get (y ∷ ys) n ≡ Some x) at g) t)))
 
-  pub other_goes : (es : List (K × X)) (i : ℕ) → i ≡ goes es → option_map_or (λ (e : K × X). is_at (R k) e.0) (slice_get es i) false ≡ false → insert es i (k, v) ≡ insert_entry R es k v
+  pub other_goes : (es : List (K × X)) (i : ℕ) → i ≡ goes es → option_map_or (λ (e : K × X). is_at (R k) e.0) (slice_get es i) false ≡ false
+      → insert es i (k, v) ≡ insert_entry R es k v
   other_goes [] i e f = rw (e) refl
   other_goes (y ∷ ys) i e f =
       by_order (R k y.0)
@@ -149,7 +154,8 @@ module _ {K X : Type 0} (R : K → K → Ordering) (k : K) (v : X) where
   found_there None h = absurd (true≢false (sym h))
   found_there (Some x) h = (x, refl, h)
 
-  pub equal_put : (es : List (K × X)) (i : ℕ) (y : K × X) → i ≡ goes es → option_map_or (λ (e : K × X). is_at (R k) e.0) (slice_get es i) false ≡ true → y ≡ get_or es i y
+  pub equal_put : (es : List (K × X)) (i : ℕ) (y : K × X) → i ≡ goes es → option_map_or (λ (e : K × X). is_at (R k) e.0) (slice_get es i) false ≡ true
+      → y ≡ get_or es i y
       → slice_set es i (y.0, v) ≡ insert_entry R es k v
   equal_put es i y e h same =
       let r = found_there (slice_get es i) h in
@@ -169,5 +175,6 @@ module _ (f : Object → Object) (es : List (ℕ × Object)) (o : ℕ) where
       ∙ ap (λ (z : Object). set_value (is_at (nat_cmp o)) es z) (r ∙ ap (λ (z : ℕ × Object). f z.1) q)
       ∙ sym (ap edited (lookup_at (is_at (nat_cmp o)) es i y p).0)
 
-  pub unwritten : position (λ e. is_at (nat_cmp o) e.0) es ≡ None → es ≡ option_map_or (λ x. set_value (is_at (nat_cmp o)) es (f x)) (lookup (is_at (nat_cmp o)) es) es
+  pub unwritten : position (λ e. is_at (nat_cmp o) e.0) es ≡ None → es ≡ option_map_or (λ x. set_value (is_at (nat_cmp o)) es (f x)) (lookup (is_at
+      (nat_cmp o)) es) es
   unwritten p = sym (ap edited (absent_lookup (is_at (nat_cmp o)) es p))

@@ -35,7 +35,8 @@ stays o n h k = omega arith
 not_below : (n : ℕ) → n < n → ⊥
 not_below n h = omega arith
 
-pub creation_agrees : (l : Layout) (s : State) (name : List ℕ) (class : ℕ) → IsValid l s → class < length l.classes → CreationAgrees l s (creation l s name class)
+pub creation_agrees : (l : Layout) (s : State) (name : List ℕ) (class : ℕ) → IsValid l s → class < length l.classes
+    → CreationAgrees l s (creation l s name class)
 creation_agrees l s name class v h = record {
   known = h;
   whole = length-map (attrs l class) (λ a. Null);

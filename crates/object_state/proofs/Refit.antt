@@ -117,13 +117,16 @@ unnamed s n up none = by (find (λ (e : ℕ × Object). pointwise nat_eq e.1.nam
   where
     by : (u : Option (ℕ × Object)) → find (λ (e : ℕ × Object). pointwise nat_eq e.1.name n) s.objects ≡ u → is_some (option_map (λ e. e.0) u) ≡ false
     by None q = refl
-    by (Some e) q = let r = find_some nat_cmp_total (λ (e : ℕ × Object). pointwise nat_eq e.1.name n) s.objects e q up in absurd (none e.0 e.1 r.0 ((bytes_decides e.1.name n).0 r.1))
+    by (Some e) q = let r = find_some nat_cmp_total (λ (e : ℕ × Object). pointwise nat_eq e.1.name n) s.objects e q up
+        in absurd (none e.0 e.1 r.0 ((bytes_decides e.1.name n).0 r.1))
 
 -- a pair that no link has is not found, and one that a link has is
-unlinked : (s : State) (a f g : ℕ) → IsStrictlySortedBy link_cmp (keys_of s.links) → ((k : ℕ × ℕ) → link s k ≡ Some (f, g) → k.0 ≡ a → ⊥) → is_some (stamp_of s a f g) ≡ false
+unlinked : (s : State) (a f g : ℕ) → IsStrictlySortedBy link_cmp (keys_of s.links) → ((k : ℕ × ℕ) → link s k ≡ Some (f, g) → k.0 ≡ a → ⊥)
+    → is_some (stamp_of s a f g) ≡ false
 unlinked s a f g up none = by (find (λ (e : (ℕ × ℕ) × (ℕ × ℕ)). nat_eq e.0.0 a && nat_eq e.1.0 f && nat_eq e.1.1 g) s.links) refl
   where
-    by : (u : Option ((ℕ × ℕ) × (ℕ × ℕ))) → find (λ (e : (ℕ × ℕ) × (ℕ × ℕ)). nat_eq e.0.0 a && nat_eq e.1.0 f && nat_eq e.1.1 g) s.links ≡ u → is_some (option_map (λ e. e.0.1) u) ≡ false
+    by : (u : Option ((ℕ × ℕ) × (ℕ × ℕ))) → find (λ (e : (ℕ × ℕ) × (ℕ × ℕ)). nat_eq e.0.0 a && nat_eq e.1.0 f && nat_eq e.1.1 g) s.links ≡ u
+        → is_some (option_map (λ e. e.0.1) u) ≡ false
     by None q = refl
     by (Some e) q = let r = link_found s a f g e q up in absurd (none e.0 r.0 r.1)
 
@@ -216,11 +219,13 @@ get_set [] i v w h = absurd (some≢none v (sym h))
 get_set (x ∷ xs) zero v w h = refl
 get_set (x ∷ xs) (suc i) v w h = get_set xs i v w h
 
-slot_set_at : (p q : Option ℕ) (x : Object) (old new : Value) → option_and_then (slice_get x.slots) p ≡ Some old → q ≡ p → option_and_then (slice_get (set_at p x new).slots) q ≡ Some new
+slot_set_at : (p q : Option ℕ) (x : Object) (old new : Value) → option_and_then (slice_get x.slots) p ≡ Some old → q ≡ p
+    → option_and_then (slice_get (set_at p x new).slots) q ≡ Some new
 slot_set_at None q x old new h e = absurd (some≢none old (sym h))
 slot_set_at (Some i) q x old new h e = ap (λ (u : Option ℕ). option_and_then (slice_get (slice_set x.slots i new)) u) e ∙ get_set x.slots i old new h
 
-set : (l : Layout) (s : State) (o a : ℕ) (old new : Value) → IsValid l s → Fits l s (SetSlot o a old new) → Fits l (apply l s (SetSlot o a old new)) (SetSlot o a new old)
+set : (l : Layout) (s : State) (o a : ℕ) (old new : Value) → IsValid l s → Fits l s (SetSlot o a old new)
+    → Fits l (apply l s (SetSlot o a old new)) (SetSlot o a new old)
 set l s o a old new v f =
     let g : SettingAgrees l s o a old new = f.agrees in
     let k = live (object s o) (faultless l s (SetSlot o a old new) f.faultless).live in
@@ -258,9 +263,18 @@ linked l s d v f =
     let found = found_insert link_total link_exact s.links (d.assoc, d.stamp) (d.first, d.second) in
     let put : link t (d.assoc, d.stamp) ≡ Some (d.first, d.second) = put_insert link_total link_exact s.links (d.assoc, d.stamp) (d.first, d.second) in
     let agrees : UnlinkingAgrees l t (link_back d) = record {
-      ends = record { known = g.ends.known; first = g.ends.first; second = g.ends.second; before = refl; after = under d.before s.next_stamp last_number g.ends.before v.links.counter };
-      same = λ m e eq. ⊎_elim (λ new. ap (λ (z : ℕ × ℕ). z.1) new.0) (λ old. absurd (link_missing s d.assoc d.first d.second none m old eq)) (found m (d.first, d.second) e);
-      others = λ m p e ne. ⊎_elim (λ new. absurd (ne (ap (λ (z : ℕ × ℕ). z.1) new.0))) (λ old. below_counter m.1 s.next_stamp d.before g.ends.before (v.links.below m p old)) (found m p e);
+      ends = record {
+        known = g.ends.known;
+        first = g.ends.first;
+        second = g.ends.second;
+        before = refl;
+        after = under d.before s.next_stamp last_number
+            g.ends.before v.links.counter;
+      };
+      same = λ m e eq. ⊎_elim (λ new. ap (λ (z : ℕ × ℕ). z.1) new.0) (λ old. absurd (link_missing s d.assoc d.first d.second none m old eq)) (found m
+          (d.first, d.second) e);
+      others = λ m p e ne. ⊎_elim (λ new. absurd (ne (ap (λ (z : ℕ × ℕ). z.1) new.0))) (λ old. below_counter m.1 s.next_stamp d.before g.ends.before
+          (v.links.below m p old)) (found m p e);
     } in
     let clean : Faultless l t (Unlink (link_back d)) = record {
       name = refl;
@@ -285,7 +299,14 @@ unlinked_again l s d v f =
     let t = apply l s (Unlink d) in
     let found = λ (m p : ℕ × ℕ). found_remove link_total link_exact s.links (d.assoc, d.stamp) m p v.links.ordered in
     let agrees : LinkingAgrees l t (link_back d) = record {
-      ends = record { known = g.ends.known; first = g.ends.first; second = g.ends.second; before = refl; after = under d.before s.next_stamp last_number g.ends.before v.links.counter };
+      ends = record {
+        known = g.ends.known;
+        first = g.ends.first;
+        second = g.ends.second;
+        before = refl;
+        after = under d.before s.next_stamp last_number
+            g.ends.before v.links.counter;
+      };
       free = λ ne m p e same. let r = found m p e in
           r.1 (λ i. (v.links.stamps m (d.assoc, d.stamp) p (d.first, d.second) r.0 was same i, same i));
       stamp = λ ne. below_counter d.stamp s.next_stamp d.before g.ends.before below;
@@ -305,7 +326,8 @@ unlinked_again l s d v f =
     } in
     record { agrees = agrees; faultless = clear l t (Link (link_back d)) clean }
 
-bound : (l : Layout) (s : State) (name : List ℕ) (old : Option Variable) (new : Variable) → IsValid l s → Fits l s (Bind name old new) → Fits l (apply l s (Bind name old new)) (unbinding name new old)
+bound : (l : Layout) (s : State) (name : List ℕ) (old : Option Variable) (new : Variable) → IsValid l s → Fits l s (Bind name old new)
+    → Fits l (apply l s (Bind name old new)) (unbinding name new old)
 bound l s name None new v f =
     let t = apply l s (Bind name None new) in
     let put : variable t name ≡ Some new = put_insert nat_list_cmp_total exact_bytes s.variables name new in
@@ -342,7 +364,8 @@ bound l s name (Some old) new v f =
     } in
     record { agrees = agrees; faultless = clear l t (Bind name (Some new) old) clean }
 
-unbound : (l : Layout) (s : State) (name : List ℕ) (old : Variable) → IsValid l s → Fits l s (Unbind name old) → Fits l (apply l s (Unbind name old)) (Bind name None old)
+unbound : (l : Layout) (s : State) (name : List ℕ) (old : Variable) → IsValid l s → Fits l s (Unbind name old)
+    → Fits l (apply l s (Unbind name old)) (Bind name None old)
 unbound l s name old v f =
     let g : variable s name ≡ Some old = f.agrees in
     let t = apply l s (Unbind name old) in

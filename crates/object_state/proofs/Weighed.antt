@@ -68,7 +68,8 @@ weighs l s (Create d) v f =
     let k = faultless l s (Create d) f.faultless in
     let free : object s d.object ≡ None = g.free (other_number d.object last_number k.number) in
     let e = sum_by-insert_entry object_weight nat_cmp_total s.objects d.object (object_of d) v.objects.ordered in
-    let e' = subst (λ (u : Option Object). sum_by object_weight (values_of (insert_entry nat_cmp s.objects d.object (object_of d))) + unwrap_or (option_map object_weight u) 0 ≡ sum_by object_weight (values_of s.objects) + object_weight (object_of d)) free e in
+    let e' = subst (λ (u : Option Object). sum_by object_weight (values_of (insert_entry nat_cmp s.objects d.object (object_of d))) + unwrap_or
+    (option_map object_weight u) 0 ≡ sum_by object_weight (values_of s.objects) + object_weight (object_of d)) free e in
     objects_gain (sum_by object_weight (values_of (insert_entry nat_cmp s.objects d.object (object_of d)))) (sum_by object_weight (values_of s.objects))
     (sum_by variable_weight (values_of s.variables)) (length s.links) (object_weight (object_of d)) e'
 weighs l s (Remove d) v f =
@@ -76,7 +77,8 @@ weighs l s (Remove d) v f =
     let k = live (object s d.object) (faultless l s (Remove d) f.faultless).live in
     let there : object s d.object ≡ Some (object_of d) = k.1 ∙ ap (λ (x : Object). Some x) (g.same k.0 k.1) in
     let e = sum_by-remove_entry object_weight (is_at (nat_cmp d.object)) s.objects in
-    let e' = subst (λ (u : Option Object). sum_by object_weight (values_of (remove_entry (is_at (nat_cmp d.object)) s.objects)) + unwrap_or (option_map object_weight u) 0 ≡ sum_by object_weight (values_of s.objects)) there e in
+    let e' = subst (λ (u : Option Object). sum_by object_weight (values_of (remove_entry (is_at (nat_cmp d.object)) s.objects)) + unwrap_or
+    (option_map object_weight u) 0 ≡ sum_by object_weight (values_of s.objects)) there e in
     objects_lose (sum_by object_weight (values_of (remove_entry (is_at (nat_cmp d.object)) s.objects))) (sum_by object_weight (values_of s.objects))
     (sum_by variable_weight (values_of s.variables)) (length s.links) (object_weight (object_of d)) e'
 weighs l s (SetSlot o a old new) v f =
@@ -89,26 +91,33 @@ weighs l s (SetSlot o a old new) v f =
     ∙ objects_turn (sum_by object_weight (values_of (set_value (is_at (nat_cmp o)) s.objects x'))) (sum_by object_weight (values_of s.objects))
     (sum_by variable_weight (values_of s.variables)) (length s.links) (object_weight k.0) (object_weight x') (size_of old) (size_of new) e h
 weighs l s (Link d) v f =
-    links_gain (sum_by object_weight (values_of s.objects)) (sum_by variable_weight (values_of s.variables)) (length (insert_entry link_cmp s.links (d.assoc, d.stamp) (d.first, d.second))) (length s.links)
+    links_gain (sum_by object_weight (values_of s.objects)) (sum_by variable_weight (values_of s.variables)) (length (insert_entry link_cmp s.links
+    (d.assoc, d.stamp) (d.first, d.second))) (length s.links)
     (length_insert link_cmp s.links (d.assoc, d.stamp) (d.first, d.second) (link_free l s d f))
 weighs l s (Unlink d) v f =
     let g : UnlinkingAgrees l s d = f.agrees in
     let k = faultless l s (Unlink d) f.faultless in
     let there = stamp_is l s d v.links.ordered g (turned (is_linked s d) k.there) in
-    links_lose (sum_by object_weight (values_of s.objects)) (sum_by variable_weight (values_of s.variables)) (length (remove_entry (is_at (link_cmp (d.assoc, d.stamp))) s.links)) (length s.links)
+    links_lose (sum_by object_weight (values_of s.objects)) (sum_by variable_weight (values_of s.variables)) (length (remove_entry (is_at (link_cmp
+    (d.assoc, d.stamp))) s.links)) (length s.links)
     (length_remove (is_at (link_cmp (d.assoc, d.stamp))) s.links (d.first, d.second) there)
 weighs l s (Bind name old new) v f =
     let g : BindingAgrees s name old new = f.agrees in
     let e = sum_by-insert_entry variable_weight nat_list_cmp_total s.variables name new v.variables.ordered in
-    let e' = subst (λ (u : Option Variable). sum_by variable_weight (values_of (insert_entry text_cmp s.variables name new)) + unwrap_or (option_map variable_weight u) 0 ≡ sum_by variable_weight (values_of s.variables) + variable_weight new) g.same e in
-    let e'' = subst (λ (z : ℕ). sum_by variable_weight (values_of (insert_entry text_cmp s.variables name new)) + z ≡ sum_by variable_weight (values_of s.variables) + variable_weight new) (bound old) e' in
-    variables_turn (sum_by object_weight (values_of s.objects)) (sum_by variable_weight (values_of (insert_entry text_cmp s.variables name new))) (sum_by variable_weight (values_of s.variables)) (length s.links)
+    let e' = subst (λ (u : Option Variable). sum_by variable_weight (values_of (insert_entry text_cmp s.variables name new)) + unwrap_or
+    (option_map variable_weight u) 0 ≡ sum_by variable_weight (values_of s.variables) + variable_weight new) g.same e in
+    let e'' = subst (λ (z : ℕ). sum_by variable_weight (values_of (insert_entry text_cmp s.variables name new)) + z ≡ sum_by variable_weight
+    (values_of s.variables) + variable_weight new) (bound old) e' in
+    variables_turn (sum_by object_weight (values_of s.objects)) (sum_by variable_weight (values_of (insert_entry text_cmp s.variables name new)))
+    (sum_by variable_weight (values_of s.variables)) (length s.links)
     (option_map_or variable_weight old 0) (variable_weight new) e''
 weighs l s (Unbind name old) v f =
     let g : variable s name ≡ Some old = f.agrees in
     let e = sum_by-remove_entry variable_weight (is_at (text_cmp name)) s.variables in
-    let e' = subst (λ (u : Option Variable). sum_by variable_weight (values_of (remove_entry (is_at (text_cmp name)) s.variables)) + unwrap_or (option_map variable_weight u) 0 ≡ sum_by variable_weight (values_of s.variables)) g e in
-    variables_lose (sum_by object_weight (values_of s.objects)) (sum_by variable_weight (values_of (remove_entry (is_at (text_cmp name)) s.variables))) (sum_by variable_weight (values_of s.variables)) (length s.links)
+    let e' = subst (λ (u : Option Variable). sum_by variable_weight (values_of (remove_entry (is_at (text_cmp name)) s.variables)) + unwrap_or
+    (option_map variable_weight u) 0 ≡ sum_by variable_weight (values_of s.variables)) g e in
+    variables_lose (sum_by object_weight (values_of s.objects)) (sum_by variable_weight (values_of (remove_entry (is_at (text_cmp name)) s.variables)))
+    (sum_by variable_weight (values_of s.variables)) (length s.links)
     (variable_weight old) e'
 
 not_heavy : (w m lo ga : ℕ) → (nat_lt lo ga && nat_lt (m + lo) (w + ga)) ≡ false → w ≤ m → w + ga ≤ m + lo

@@ -51,7 +51,8 @@ pub record LinksAreValid (links : List ((ℕ × ℕ) × (ℕ × ℕ))) (next : �
   pub ordered : IsStrictlySortedBy link_cmp (keys_of links)
   pub fit : length links ≤ max_links
   pub counter : next ≤ last_number
-  pub once : (k m : ℕ × ℕ) (pair : ℕ × ℕ) → lookup (is_at (link_cmp k)) links ≡ Some pair → lookup (is_at (link_cmp m)) links ≡ Some pair → k.0 ≡ m.0 → k.1 ≡ m.1
+  pub once : (k m : ℕ × ℕ) (pair : ℕ × ℕ) → lookup (is_at (link_cmp k)) links ≡ Some pair → lookup (is_at (link_cmp m)) links ≡ Some pair → k.0 ≡ m.0
+      → k.1 ≡ m.1
   pub stamps : (k m : ℕ × ℕ) (p q : ℕ × ℕ) → lookup (is_at (link_cmp k)) links ≡ Some p → lookup (is_at (link_cmp m)) links ≡ Some q → k.1 ≡ m.1 → k.0 ≡ m.0
   pub below : (k : ℕ × ℕ) (pair : ℕ × ℕ) → lookup (is_at (link_cmp k)) links ≡ Some pair → k.1 < next
 

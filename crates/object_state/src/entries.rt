@@ -139,7 +139,8 @@ impl Entries<ObjNo, Object> {
         attr: AttrNo,
         value: Value,
     )
-        ensures { self.new ≡ option_map_or (λ x. set_value (is_at (nat_cmp object)) self.old (with_slot layout.now x attr value)) (lookup (is_at (nat_cmp object)) self.old) self.old }
+        ensures { self.new ≡ option_map_or (λ x. set_value (is_at (nat_cmp object)) self.old (with_slot layout.now x attr value)) (lookup (is_at
+            (nat_cmp object)) self.old) self.old }
     {
         if let Some(at) = place_at(self.entries.as_slice(), &object) {
             let entry = &mut self.entries[at];

@@ -58,7 +58,11 @@ fn creation_fault<S: StateReader>(
     new: &ObjectChange,
     is_large: bool,
 ) -> Option<StoreFault>
-    ensures { result ≡ first_fault ((is_some (object_named (S.held store.now).state new.now.name) || is_some (variable (S.held store.now).state new.now.name), X1)
+    ensures { result ≡ first_fault ((
+      is_some (object_named (S.held store.now).state new.now.name)
+          || is_some (variable (S.held store.now).state new.now.name),
+      X1,
+    )
         ∷ (is_abstract (S.held store.now).layout new.now.class, X2) ∷ (nat_le max_objects (length (S.held store.now).state.objects), X6)
         ∷ (nat_eq new.now.object last_number, X15) ∷ (is_large, X8) ∷ []) }
 {

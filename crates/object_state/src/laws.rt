@@ -22,7 +22,8 @@ pub fn changes_are_taken_back()
 /// A law: the cells that are touched are exactly those that a change alters, where it sets no slot
 /// to the value that it has.
 pub fn touched_cells_are_altered()
-    ensures { (l : Layout) (s : State) (c : Change) (x : Cell) → IsValid l s → Fits l s c → SetsAnother c → (IsTrue (has_cell (touched l c) x) ↔ Alters l s c x) }
+    ensures { (l : Layout) (s : State) (c : Change) (x : Cell) → IsValid l s → Fits l s c → SetsAnother c
+        → (IsTrue (has_cell (touched l c) x) ↔ Alters l s c x) }
 {}
 
 /// A law: a set has the cells that were put into it and those that it had.

@@ -30,9 +30,25 @@ impl Model for PlainStore {
 
     ghost coded = { Prim.hlevel (codes, types.the_row.coded, values.the_row.coded) };
 
-    ghost view = { λ s. record { layout = s.layout; state = record { objects = s.objects; links = s.links; variables = s.variables; next_object = s.next_object; next_stamp = s.next_stamp } } };
+    ghost view = { λ s. record {
+      layout = s.layout;
+      state = record {
+        objects = s.objects;
+        links = s.links;
+        variables = s.variables;
+        next_object = s.next_object;
+        next_stamp = s.next_stamp;
+      };
+    } };
 
-    ghost invariant = { λ s. IsValid s.layout (record { objects = s.objects; links = s.links; variables = s.variables; next_object = s.next_object; next_stamp = s.next_stamp }) };
+    ghost invariant = { λ s. IsValid s.layout (record {
+      objects = s.objects;
+      links = s.links;
+      variables = s.variables;
+      next_object = s.next_object;
+      next_stamp =
+          s.next_stamp;
+    }) };
 }
 
 impl PlainStore {

@@ -15,7 +15,8 @@ returns c = λ t.
     let all = all_taken c.args.classes.now c.classes.i c.classes-test.false in
     c.classes.invariant t
     ∙ ap (λ l. option_or (get_by_text c.args.names.now t) (lookup (λ name. same_text name t) l))
-    (ap (λ l. map (λ p. (p.1.now.name.text, T.Class p.0)) (enumerate_from 0 l)) all ∙ each_map (λ p. (p.1.name.text, T.Class p.0)) (λ d. d.now) 0 c.args.classes.now)
+    (ap (λ l. map (λ p. (p.1.now.name.text, T.Class p.0)) (enumerate_from 0 l)) all ∙ each_map (λ p. (p.1.name.text, T.Class p.0))
+    (λ d. d.now) 0 c.args.classes.now)
 
 pub classes-preserved : goal.classes-preserved
 classes-preserved c = λ t.

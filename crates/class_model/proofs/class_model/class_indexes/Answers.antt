@@ -8,7 +8,7 @@ classes-preserved c =
     rw c.in_ok-push.ensures.items (
       size_more c.classes.indexes.items c.classes.class _ c.classes.invariant.0,
       each_more (λ i t. IsIndexOf c.args.model.now i t) c.classes.indexes.items c.classes.class _ c.classes.invariant.0 c.classes.invariant.1
-      c.in_ok-class_index.ensures,
+          c.in_ok-class_index.ensures,
     )
 
 pub returns : goal.returns

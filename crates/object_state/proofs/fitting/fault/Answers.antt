@@ -8,7 +8,8 @@ use Rattle.object_state.proofs.fitting.fault.Goals as goal
 pub size_fault-requires : goal.size_fault-requires
 size_fault-requires g c =
     let agrees = rw c.in-SetSlot.is at c.requires.agrees in
-    rw c.in-SetSlot.is (old_slot_fits _ _ c.in-SetSlot.object c.in-SetSlot.attr c.in-SetSlot.old c.in-SetSlot.new c.requires.valid agrees (sym c.is_gone.ensures ∙ c.if-is_gone.false))
+    rw c.in-SetSlot.is (old_slot_fits _ _ c.in-SetSlot.object c.in-SetSlot.attr c.in-SetSlot.old c.in-SetSlot.new c.requires.valid agrees (sym c.is_gone.ensures
+    ∙ c.if-is_gone.false))
 
 pub size_fault-requires-else-is_object_name : goal.size_fault-requires-else-is_object_name
 size_fault-requires-else-is_object_name g c =

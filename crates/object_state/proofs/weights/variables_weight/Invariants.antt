@@ -6,6 +6,7 @@ use Rattle.object_state.proofs.weights.variables_weight.Given as goal
 
 abbrev pub invariant-add : goal.invariant-add
 invariant-add l = record {
-  sum : min (l.sum + sum_by variable_weight (values_of (drop l.entry-index l.variables))) (2 ^ 64 - 1) ≡ min (sum_by variable_weight (values_of l.variables)) (2 ^ 64 - 1);
+  sum : min (l.sum + sum_by variable_weight (values_of (drop l.entry-index l.variables))) (2 ^ 64 - 1) ≡ min (sum_by variable_weight (values_of l.variables))
+      (2 ^ 64 - 1);
   fits : l.sum < 2 ^ 64;
 }

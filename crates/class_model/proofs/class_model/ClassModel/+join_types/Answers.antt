@@ -34,13 +34,13 @@ returns-in_default t c =
     let e : T.Any ≡ apart m c.args.a.now c.args.b.now =
     elim c.in_default.branch [
       | in_default-via-in-Class+in_default w ↦ apart_other m c.args.a.now c.args.b.now (λ x y ea eb. w.in_default.not-Class-1 y eb)
-      (λ k l x y ea eb. no_class w.in_default.field-0-0 k x (sym w.in_default.is-0 ∙ ea))
+          (λ k l x y ea eb. no_class w.in_default.field-0-0 k x (sym w.in_default.is-0 ∙ ea))
       | in_default-via-in-Coll-Coll+else-eq w ↦
           sym (ap₂ (apart m) w.in-Coll-Coll.is-0 w.in-Coll-Coll.is-1 ∙ coll_apart m w.in-Coll-Coll.kind w.in-Coll-Coll.other w.in-Coll-Coll.a w.in-Coll-Coll.b
           ∙ ap (λ e. cond e (T.Coll w.in-Coll-Coll.kind (join m w.in-Coll-Coll.a w.in-Coll-Coll.b)) T.Any) (sym w.eq.ensures ∙ w.if-eq.false))
       | in_default-via-in-Coll+in_default w ↦ apart_other m c.args.a.now c.args.b.now
-      (λ x y ea eb. no_class x w.in_default.field-0-0 w.in_default.field-1-0 (sym ea ∙ w.in_default.is-0)) (λ k l x y ea eb. w.in_default.not-Coll-1 l y eb)
+          (λ x y ea eb. no_class x w.in_default.field-0-0 w.in_default.field-1-0 (sym ea ∙ w.in_default.is-0)) (λ k l x y ea eb. w.in_default.not-Coll-1 l y eb)
       | in_default-via-in_default w ↦ apart_other m c.args.a.now c.args.b.now (λ x y ea eb. w.in_default.not-Class-0 x ea)
-      (λ k l x y ea eb. w.in_default.not-Coll-0 k x ea)
+          (λ k l x y ea eb. w.in_default.not-Coll-0 k x ea)
     ] in
     e ∙ sym (join_apart m c.args.a.now c.args.b.now (sym c.conforms.ensures ∙ c.if-conforms.false) (sym c.conforms-2.ensures ∙ c.if-conforms-2.false))

@@ -12,13 +12,16 @@ use Rattle.object_state.proofs.entries.Entries+ObjNo+Object.set_slot.Goals as go
 
 pub returns-in-Some : goal.returns-in-Some
 returns-in-Some c =
-    written (λ x. with_slot c.args.layout.now x c.args.attr c.args.value) c.self.inside.entries.items c.args.object c.in-Some.at c.index_mut-entry.result.now c.set_slot.new.object
+    written (λ x. with_slot c.args.layout.now x c.args.attr c.args.value) c.self.inside.entries.items c.args.object c.in-Some.at c.index_mut-entry.result.now
+    c.set_slot.new.object
     (ap (position (λ e. is_at (nat_cmp c.args.object) e.0)) (sym c.as_slice.ensures.value) ∙ sym c.in-Some.ensures)
     c.index_mut-entry.ensures.value
     c.set_slot.ensures
-    ∙ ap (λ (l : List (ℕ × Object)). option_map_or (λ x. set_value (is_at (nat_cmp c.args.object)) l (with_slot c.args.layout.now x c.args.attr c.args.value)) (lookup (is_at (nat_cmp c.args.object)) l) l) c.self.view_is
+    ∙ ap (λ (l : List (ℕ × Object)). option_map_or (λ x. set_value (is_at (nat_cmp c.args.object)) l (with_slot c.args.layout.now x c.args.attr c.args.value))
+    (lookup (is_at (nat_cmp c.args.object)) l) l) c.self.view_is
 
 pub returns-in_default : goal.returns-in_default
 returns-in_default c =
     unwritten (λ x. with_slot c.args.layout.now x c.args.attr c.args.value) c.args.self.now c.args.object
-    (ap (position (λ e. is_at (nat_cmp c.args.object) e.0)) (sym (c.as_slice.ensures.value ∙ c.self.view_is)) ∙ sym c.place_at.ensures ∙ absent c.place_at.result c.in_default.not-Some)
+    (ap (position (λ e. is_at (nat_cmp c.args.object) e.0)) (sym (c.as_slice.ensures.value ∙ c.self.view_is)) ∙ sym c.place_at.ensures
+    ∙ absent c.place_at.result c.in_default.not-Some)

@@ -16,4 +16,5 @@ returns-in-Some g c =
 pub returns-in_default : goal.returns-in_default
 returns-in_default g c =
     sym (absent_stays (is_at (g.K.Ord.cmp c.args.key.now)) c.args.self.now
-    (ap (position (λ e. is_at (g.K.Ord.cmp c.args.key.now) e.0)) (sym (c.as_slice.ensures.value ∙ c.self.view_is)) ∙ sym c.place_at.ensures ∙ absent c.place_at.result c.in_default.not-Some))
+    (ap (position (λ e. is_at (g.K.Ord.cmp c.args.key.now) e.0)) (sym (c.as_slice.ensures.value ∙ c.self.view_is)) ∙ sym c.place_at.ensures
+    ∙ absent c.place_at.result c.in_default.not-Some))

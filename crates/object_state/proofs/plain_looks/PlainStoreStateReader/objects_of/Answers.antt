@@ -10,6 +10,8 @@ use Rattle.object_state.proofs.plain_looks.PlainStoreStateReader.objects_of.Goal
 pub returns : goal.returns
 returns c =
     c.from_vec.ensures ∙ c.in_ok-items.ensures
-    ∙ map_twice Obj (λ (entry : ℕ × Object). entry.0) (filter (λ (entry : ℕ × Object). is_a c.self.inside.layout entry.1.class c.args.class) c.as_slice.result.now)
-    ∙ ap (λ (es : List (ℕ × Object)). map Obj (map (λ (entry : ℕ × Object). entry.0) (filter (λ (entry : ℕ × Object). is_a c.self.inside.layout entry.1.class c.args.class) es))) c.as_slice.ensures
+    ∙ map_twice Obj (λ (entry : ℕ × Object). entry.0) (filter (λ (entry : ℕ × Object). is_a c.self.inside.layout entry.1.class c.args.class)
+    c.as_slice.result.now)
+    ∙ ap (λ (es : List (ℕ × Object)). map Obj (map (λ (entry : ℕ × Object). entry.0) (filter (λ (entry : ℕ × Object). is_a c.self.inside.layout entry.1.class
+    c.args.class) es))) c.as_slice.ensures
     ∙ ap (λ (d : Diagram). map Obj (extent d.layout d.state c.args.class)) c.self.view_is
