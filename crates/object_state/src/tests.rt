@@ -2,7 +2,6 @@ use super::*;
 use class_model::{End, OclType};
 use ocl_values::{Text, Value};
 use std::alloc::{AllocError, Global};
-use std::process::Abort;
 use std::test::Fail;
 use use_lists::Items;
 
@@ -53,43 +52,10 @@ fn create(
     }
 }
 
-/// A look as the tables below write it.
-#[derive(Clone, Copy, Debug)]
-enum Seen {
-    Absent,
-    Class(u32),
-    Null,
-    Objects(&'static [u32]),
-}
-
-fn look_of(alloc: Global, seen: Seen) -> Result<Look, AllocError> {
-    Ok(match seen {
-        Seen::Absent => Look::Absent,
-        Seen::Class(class) => Look::Class(class),
-        Seen::Null => Look::Value(Value::Null),
-        Seen::Objects(numbers) => {
-            let mut items = Items::new(alloc);
-            'numbers: for number in numbers {
-                items.push(Value::Obj(*number))?;
-            }
-            Look::Items(items)
-        }
-    })
-}
-
-fn compare(
-    rt: &impl Abort,
-    alloc: Global,
-    store: &PlainStore,
-    rows: &[(Cell, Seen)],
-) -> Result<(), AllocError> {
-    'rows: for (cell, seen) in rows {
-        assert!(rt;
-            store.look(alloc, cell)? == look_of(alloc, *seen)?,
-            "{cell:?}"
-        );
-    }
-    Ok(())
+/// How many objects a class and its descendants have.
+fn count(alloc: Global, store: &PlainStore, class: u32) -> Result<usize, AllocError> {
+    let there = store.objects_of(alloc, class)?;
+    Ok(there.len())
 }
 
 #[test]
@@ -99,12 +65,6 @@ fn a_new_store_is_empty(rt: HostRuntime) -> Result<(), Fail> {
     assert_eq!(rt; store.counters(), (1, 1));
     assert_eq!(rt; store.weight(), 0);
     assert_eq!(rt; store.object_named("a"), None);
-    assert_eq!(rt; store.stamp(0, 1, 2), None);
-    let rows = [
-        (Cell::Kind(1), Seen::Absent),
-        (Cell::Extent(0), Seen::Objects(&[])),
-    ];
-    compare(&rt, alloc, &store, &rows)?;
     Ok(())
 }
 
@@ -113,22 +73,20 @@ fn an_object_is_of_its_class_and_all_ancestors(rt: HostRuntime) -> Result<(), Fa
     let alloc = rt.alloc();
     let mut store = PlainStore::new(alloc, layout(alloc)?);
     assert!(rt; create(alloc, &mut store, "d", 3)?.is_some());
-    let rows = [
-        (Cell::Kind(1), Seen::Class(3)),
-        (Cell::Slot(1, 2), Seen::Null),
-        (Cell::Slot(1, 3), Seen::Absent),
-        (Cell::Nav(0, End::First, 1), Seen::Objects(&[])),
-        (Cell::Nav(1, End::First, 1), Seen::Absent),
-        (Cell::Extent(0), Seen::Objects(&[1])),
-        (Cell::Extent(1), Seen::Objects(&[1])),
-        (Cell::Extent(2), Seen::Objects(&[1])),
-        (Cell::Extent(3), Seen::Objects(&[1])),
-        (Cell::Extent(4), Seen::Objects(&[])),
-    ];
-    compare(&rt, alloc, &store, &rows)?;
-    assert_eq!(rt; store.counters(), (2, 1));
-    assert_eq!(rt; store.weight(), 4);
     assert_eq!(rt; store.object_named("d"), Some(1));
+    assert_eq!(rt; count(alloc, &store, 0)?, 1);
+    assert_eq!(rt; count(alloc, &store, 2)?, 1);
+    assert_eq!(rt; count(alloc, &store, 4)?, 0);
+    Ok(())
+}
+
+#[test]
+fn a_slot_is_null_at_first(rt: HostRuntime) -> Result<(), Fail> {
+    let alloc = rt.alloc();
+    let mut store = PlainStore::new(alloc, layout(alloc)?);
+    assert!(rt; create(alloc, &mut store, "d", 3)?.is_some());
+    let seen = store.look(alloc, &Cell::Slot(1, 2))?;
+    assert!(rt; seen == Look::Value(Value::Null));
     Ok(())
 }
 
@@ -139,7 +97,6 @@ fn a_taken_name_and_an_abstract_class_are_refused(rt: HostRuntime) -> Result<(),
     assert!(rt; create(alloc, &mut store, "d", 3)?.is_some());
     assert!(rt; create(alloc, &mut store, "d", 0)?.is_none());
     assert!(rt; create(alloc, &mut store, "e", 4)?.is_none());
-    assert_eq!(rt; store.counters(), (2, 1));
     Ok(())
 }
 
@@ -208,20 +165,11 @@ fn a_creation_touches_its_cells(rt: HostRuntime) -> Result<(), Fail> {
         after: 2,
     });
     let cells = touched_by(alloc, &creation)?;
-    let rows = [
-        (Cell::Kind(1), true),
-        (Cell::Kind(2), false),
-        (Cell::Slot(1, 1), true),
-        (Cell::Slot(1, 2), false),
-        (Cell::Nav(0, End::First, 1), true),
-        (Cell::Nav(0, End::Second, 1), true),
-        (Cell::Extent(0), true),
-        (Cell::Extent(1), true),
-        (Cell::Extent(2), false),
-    ];
-    'rows: for (cell, is_touched) in rows {
-        assert_eq!(rt; cells.has(&cell), is_touched);
-    }
+    assert!(rt; cells.has(&Cell::Kind(1)));
+    assert!(rt; cells.has(&Cell::Slot(1, 1)));
+    assert!(rt; cells.has(&Cell::Nav(0, End::First, 1)));
+    assert!(rt; cells.has(&Cell::Extent(0)));
+    assert!(rt; !cells.has(&Cell::Extent(2)));
     Ok(())
 }
 
