@@ -10,6 +10,9 @@ use std::test::Fail;
 use use_lists::Items;
 use use_text::Place;
 
+mod readings;
+mod sample;
+
 fn name(alloc: Global, text: &str) -> Result<Name, Fail> {
     Ok(Name {
         text: Text::copy_of(alloc, text)?,

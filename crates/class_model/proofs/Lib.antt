@@ -9,3 +9,4 @@ pub mod Indexing
 pub mod Lowest
 pub mod Conforming
 pub mod Joining
+pub mod Overriding

@@ -66,19 +66,15 @@ flagged_more n done order place low flags = record {
       (eqb_tells i place);
 }
 
--- so many classes have a number, and those before a place do
-pub record IsNumberedSoFar (parents : List (List ℕ)) (done : List Bool) (order : List ℕ) (count open_from : ℕ) : Type 0 where
+-- so many classes have a number
+pub record IsNumberedSoFar (parents : List (List ℕ)) (done : List Bool) (order : List ℕ) (count : ℕ) : Type 0 where
   pub flags : IsFlagged (length parents) done order
   pub ahead : numbering parents ≡ numbered_on parents order (length parents - count)
-  pub low : (i : ℕ) → i < open_from → get_or done i true ≡ true
-  pub within : open_from ≤ length parents
 
-pub start : (parents : List (List ℕ)) → IsNumberedSoFar parents (replicate (length parents) false) [] 0 0
+pub start : (parents : List (List ℕ)) → IsNumberedSoFar parents (replicate (length parents) false) [] 0
 start parents = record {
   flags = record { size = length-replicate (length parents) false; same = λ i h. get_or-replicate (length parents) i false true h };
   ahead = let e : length parents - 0 ≡ length parents = omega arith in rw e refl;
-  low = λ i h. absurd (omega arith);
-  within = omega arith;
 }
 
 within_or : (o : Option ℕ) (b : Bool) (n i : ℕ) → ((j : ℕ) → o ≡ Some j → j < n) → option_or o (cond b (Some n) None) ≡ Some i → i < suc n
@@ -90,7 +86,7 @@ pub least_within : (f : ℕ → Bool) (n i : ℕ) → least_below f n ≡ Some i
 least_within f zero i e = cc
 least_within f (suc n) i e = within_or (least_below f n) (f n) n i (λ j. least_within f n j) e
 
-module _ (parents : List (List ℕ)) (done : List Bool) (order : List ℕ) (count from : ℕ) (so_far : IsNumberedSoFar parents done order count from)
+module _ (parents : List (List ℕ)) (done : List Bool) (order : List ℕ) (count : ℕ) (so_far : IsNumberedSoFar parents done order count)
     (more : count < length parents) where
   abbrev pub flag_test : ℕ → Bool
   flag_test i = not (get_or done i true) && list_all (λ p. get_or done p true) (row_at parents i)
@@ -108,24 +104,16 @@ module _ (parents : List (List ℕ)) (done : List Bool) (order : List ℕ) (coun
   stuck e = sym (next_step ∙ ap (λ o. option_map_or (λ i. numbered_on parents (order ++ i ∷ []) (length parents - (count + 1))) o order) e)
 
   -- the next class gets its number
-  pub further : (open_from place : ℕ) → ((i : ℕ) → i < open_from → get_or done i true ≡ true) → open_from ≤ length parents
-      → least_below flag_test (length parents) ≡ Some place →
-      IsNumberedSoFar parents (slice_set done place true) (order ++ place ∷ []) (count + 1) open_from
-  further open_from place low within e = record {
+  pub further : (place : ℕ) → least_below flag_test (length parents) ≡ Some place →
+      IsNumberedSoFar parents (slice_set done place true) (order ++ place ∷ []) (count + 1)
+  further place e = record {
     flags = flagged_more (length parents) done order place (least_within flag_test (length parents) place e) so_far.flags;
     ahead = next_step ∙ ap (λ o. option_map_or (λ i. numbered_on parents (order ++ i ∷ []) (length parents - (count + 1))) o order) e;
-    low = λ i h. ⊎_elim
-        (λ t. ap (λ j. get_or (slice_set done place true) j true) t.1
-        ∙ get_or-set_same done place true true (let s : length done ≡ length parents = so_far.flags.size in
-        let b = least_within flag_test (length parents) place e in omega arith))
-        (λ t. get_or-set_other done place i true true t.1 ∙ low i h)
-        (eqb_tells i place);
-    within = within;
   }
 
 -- each class had its turn
-pub finished : (parents : List (List ℕ)) (done : List Bool) (order : List ℕ) (count from : ℕ) → IsNumberedSoFar parents done order count from
+pub finished : (parents : List (List ℕ)) (done : List Bool) (order : List ℕ) (count : ℕ) → IsNumberedSoFar parents done order count
     → length parents ≤ count → order ≡ numbering parents
-finished parents done order count from so_far all =
+finished parents done order count so_far all =
     let e : length parents - count ≡ 0 = omega arith in
     sym (so_far.ahead ∙ ap (numbered_on parents order) e)

@@ -1,5 +1,5 @@
 -- The ancestors of a class are the least set that holds it and the parents of its members.
-use Rattle.std.proofs.Common.{◌≡◌, ℕ, zero, suc, ◌<◌, ◌≤◌, Bool, true, false, ◌||◌, nat_cmp, nat_eq, List, [], ◌∷◌, ◌++◌, refl, sym, ap, ap₂, ◌∙◌, subst, arith, true≢false, ⊎_elim}
+use Rattle.std.proofs.Common.{◌≡◌, ℕ, zero, suc, ◌<◌, Bool, true, false, ◌||◌, nat_cmp, nat_eq, List, [], ◌∷◌, ◌++◌, refl, sym, ap, ap₂, ◌∙◌, subst, arith, true≢false, ⊎_elim}
 use Rattle.std.specs.Cmp.{unsigned_ties}
 use Rattle.std.specs.List.{AllByRecursion, flat_map}
 use Rattle.std.proofs.lemmas.Bool.Decides.{eqb_tells}
@@ -10,7 +10,7 @@ use Rattle.use_orders.proofs.Sets.{has-set_of}
 use Rattle.class_rules.specs.Ancestors.{HoldsParents, IsDownward, IsLeastAbove, ancestors, upward}
 use Rattle.class_rules.specs.Numbering.{is_among, row_at}
 
-among_has : (xs : List ℕ) (z : ℕ) → is_among xs z ≡ has nat_cmp xs z
+pub among_has : (xs : List ℕ) (z : ℕ) → is_among xs z ≡ has nat_cmp xs z
 among_has [] z = refl
 among_has (x ∷ xs) z = ap₂ (λ a b. a || b) (unsigned_ties z x) (among_has xs z)
 

@@ -6,3 +6,8 @@ pub mod Ordered
 pub mod Unnumbered
 pub mod Acyclic
 pub mod LeastAbove
+pub mod Queued
+pub mod Single
+pub mod Different
+pub mod Skipped
+pub mod Signatures

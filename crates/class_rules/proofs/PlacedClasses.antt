@@ -33,7 +33,7 @@ or_known : (o p : Option ℕ) → is_some o ≡ true → o ≡ option_or o p
 or_known None p e = absurd (true≢false (sym e))
 or_known (Some q) p e = refl
 
-same_is : (a b : List ℕ) → same_text a b ≡ true → a ≡ b
+pub same_is : (a b : List ℕ) → same_text a b ≡ true → a ≡ b
 same_is a b e = slice_cmp-IsAntisymmetric nat_cmp-IsAntisymmetric a b (equal (slice_cmp nat_cmp a b) (sym (texts_ties a b) ∙ e))
 
 abbrev text_cmp : List ℕ → List ℕ → Ordering

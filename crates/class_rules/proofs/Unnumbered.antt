@@ -1,11 +1,11 @@
 -- Classes without a number, and cycles.
-use Rattle.std.proofs.Common.{◌≡◌, ℕ, zero, suc, ◌+◌, ◌<◌, ◌≤◌, Bool, true, false, not, ◌&&◌, ◌||◌, cond, nat_eq, nat_lt, List, [], ◌∷◌, ◌++◌, length, filter, take, Option, Some, None, refl, sym, ap, ap₂, ◌∙◌, arith, true≢false, ⊎_elim, length-append}
+use Rattle.std.proofs.Common.{◌≡◌, ℕ, zero, suc, ◌+◌, ◌<◌, ◌≤◌, Bool, true, false, not, ◌&&◌, ◌||◌, cond, nat_eq, nat_lt, List, [], ◌∷◌, ◌++◌, length, take, Option, Some, None, refl, sym, ap, ap₂, ◌∙◌, arith, true≢false, ⊎_elim, length-append}
 use Rattle.std.specs.List.{AllByRecursion, list_all, list_any}
 use Rattle.std.specs.Option.{option_map_or, option_or}
 use Rattle.std.proofs.lemmas.Bool.{cases_Bool, cases_lt}
 use Rattle.std.proofs.lemmas.Bool.Decides.{eqb_tells, leb_tells}
 use Rattle.std.proofs.lemmas.List.Folds.{list_any-append}
-use Rattle.class_rules.specs.Cycles.{GoRound, NumbersEach, have_parents_within, places_of, places_without, unnumbered}
+use Rattle.class_rules.specs.Cycles.{GoRound, NumbersEach, have_parents_within, places_without, unnumbered}
 use Rattle.class_rules.specs.Numbering.{closes_cycle, has_cycle, is_among, least_below, may_follow, numbered_on, numbering, row_at}
 use Rattle.class_rules.proofs.Flags.{least_within}
 use Rattle.class_rules.proofs.Least.{least_found, least_none}
@@ -19,11 +19,11 @@ or_true : (a : Bool) → (a || true) ≡ true
 or_true true = refl
 or_true false = refl
 
-false_of : (a : Bool) → not a ≡ true → a ≡ false
+pub false_of : (a : Bool) → not a ≡ true → a ≡ false
 false_of true h = absurd (true≢false (sym h))
 false_of false h = refl
 
-left_false : (a b : Bool) → (a || b) ≡ false → a ≡ false
+pub left_false : (a b : Bool) → (a || b) ≡ false → a ≡ false
 left_false true b h = absurd (true≢false h)
 left_false false b h = refl
 
@@ -88,7 +88,8 @@ by_next : (P : List ℕ → Type 0) (parents : List (List ℕ)) (done : List ℕ
 by_next P parents done n None h f = h
 by_next P parents done n (Some i) h f = f i refl
 
-kept_on : (P : List ℕ → Type 0) (parents : List (List ℕ)) → ((done : List ℕ) (i : ℕ) → P done → i < length parents → may_follow parents done i ≡ true → P (done
+pub kept_on : (P : List ℕ → Type 0) (parents : List (List ℕ)) → ((done : List ℕ) (i : ℕ) → P done → i < length parents → may_follow parents done i ≡ true
+    → P (done
     ++ i ∷ [])) →
     (done : List ℕ) (n : ℕ) → P done → P (numbered_on parents done n)
 kept_on P parents step done zero h = h
@@ -97,7 +98,7 @@ kept_on P parents step done (suc n) h =
     (λ i e. kept_on P parents step (done ++ i ∷ []) n (step done i h (least_within (may_follow parents done) (length parents) i e) (least_passes
     (may_follow parents done) (length parents) i e)))
 
-not_done : (parents : List (List ℕ)) (done : List ℕ) (i : ℕ) → may_follow parents done i ≡ true → is_among done i ≡ false
+pub not_done : (parents : List (List ℕ)) (done : List ℕ) (i : ℕ) → may_follow parents done i ≡ true → is_among done i ≡ false
 not_done parents done i h =
     false_of (is_among done i) (first_of (not (is_among done i)) (list_all (λ p. is_among done p || not (nat_lt p (length parents))) (row_at parents i)) h)
 

@@ -75,7 +75,7 @@ shuffle false true false f = refl
 shuffle false false true f = refl
 shuffle false false false f = refl
 
-insert_same : (xs : List ℕ) (x : ℕ) → insert_key nat_cmp xs x ≡ insert_new nat_cmp xs x
+pub insert_same : (xs : List ℕ) (x : ℕ) → insert_key nat_cmp xs x ≡ insert_new nat_cmp xs x
 insert_same [] x = refl
 insert_same (y ∷ ys) x = ap (λ l. match_ordering (nat_cmp x y) (x ∷ y ∷ ys) (y ∷ ys) (y ∷ l)) (insert_same ys x)
 

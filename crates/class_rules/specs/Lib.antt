@@ -1,7 +1,9 @@
 pub mod Numbering
+pub mod Queue
 pub mod Cycles
 pub mod Ancestors
 pub mod Features
 pub mod Operations
+pub mod Agreeing
 pub mod ClassRules
 pub mod WellFormed

@@ -1,5 +1,7 @@
 ghost use Rattle.std.specs.Prelude.{◌≡◌, IfOk};
-ghost use Rattle.class_rules.specs.ClassRules.{broken_by, first_broken, named_if};
+ghost use Rattle.class_rules.specs.Ancestors.{properly_above};
+ghost use Rattle.class_rules.specs.ClassRules.{broken_by, first_broken, first_op, named_if};
+ghost use Rattle.class_rules.specs.Operations.{clashes_above};
 ghost use Rattle.class_decls.specs.Texts.{first_numbered};
 
 use crate::clash::{Clash, first_clash};
@@ -7,6 +9,7 @@ use crate::contracts::first_too_many;
 use crate::features::{has_too_many_features, meets_attribute_twice, role_clashes};
 use crate::hierarchy::Hierarchy;
 use crate::overriding::is_ambiguous;
+use crate::unbroken::is_unbroken;
 use class_decls::ClassDecl;
 use std::alloc::{AllocError, Global};
 use use_text::Place;
@@ -36,6 +39,24 @@ fn named_if(broken: bool, class: &ClassDecl) -> Option<Place>
     if broken { Some(class.name.place) } else { None }
 }
 
+/// The first operation of a class that clashes with one that it overrides. The ancestors of a class
+/// that declares none are not looked at.
+fn clash_above(
+    alloc: Global,
+    hierarchy: &Hierarchy<'_>,
+    kind: Clash,
+    place: usize,
+    class: &ClassDecl,
+) -> Result<Option<Place>, AllocError>
+    ensures { IfOk result (λ found. found ≡ first_op (clashes_above kind (properly_above hierarchy.now place)) class.now) }
+{
+    if class.ops.is_empty() {
+        return Ok(None);
+    }
+    let above = hierarchy.properly_above(alloc, place)?;
+    Ok(first_clash(kind, class, above.as_slice()))
+}
+
 /// Where a class that stands at a place breaks a rule.
 fn broken_at(
     alloc: Global,
@@ -59,18 +80,14 @@ fn broken_at(
             Ok(named_if(broken, class))
         }
         ClassRule::SignatureChanges => {
-            let above = hierarchy.properly_above(alloc, place)?;
-            Ok(first_clash(Clash::Signature, class, above.as_slice()))
+            clash_above(alloc, hierarchy, Clash::Signature, place, class)
         }
         ClassRule::OperationAmbiguous => {
             let numbers = hierarchy.ancestor_numbers(alloc, place)?;
             let broken = is_ambiguous(alloc, hierarchy, numbers.as_slice())?;
             Ok(named_if(broken, class))
         }
-        ClassRule::BodiesMixed => {
-            let above = hierarchy.properly_above(alloc, place)?;
-            Ok(first_clash(Clash::Bodies, class, above.as_slice()))
-        }
+        ClassRule::BodiesMixed => { clash_above(alloc, hierarchy, Clash::Bodies, place, class) }
         ClassRule::TooManyFeatures => {
             let above = hierarchy.above(alloc, place)?;
             let broken = has_too_many_features(alloc, above.as_slice())?;
@@ -108,6 +125,10 @@ pub(crate) fn first_broken(
 ) -> Result<Option<Place>, AllocError>
     ensures { IfOk result (λ found. found ≡ first_broken rule hierarchy.now) }
 {
+    let unbroken = is_unbroken(alloc, hierarchy, rule)?;
+    if unbroken {
+        return Ok(None);
+    }
     let classes = hierarchy.decls().classes.as_slice();
     first_broken_among(alloc, hierarchy, rule, classes)
 }

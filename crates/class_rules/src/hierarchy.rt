@@ -1,6 +1,6 @@
 ghost use Rattle.std.specs.Prelude.{◌≡◌, ◌++◌, [], ℕ, List, None, IfOk, OnOk, filter, length, map, nat_lt, slice_get, slice_index_or};
 ghost use Rattle.std.specs.Option.{option_copied};
-ghost use Rattle.std.specs.List.{cons_option, filter_map};
+ghost use Rattle.std.specs.List.{cons_option, filter_map, list_all};
 ghost use Rattle.class_rules.specs.Ancestors.{above, ancestor_numbers, ancestors, class_numbered, number_at, parent_numbers, properly_above};
 ghost use Rattle.class_rules.specs.Numbering.{numbering, parent_places, row_at};
 
@@ -168,6 +168,13 @@ impl<'a> Hierarchy<'a> {
         ensures { result.now ≡ row_at (parent_numbers self.now) number }
     {
         row_at(self.parents.as_slice(), number)
+    }
+
+    /// Whether no class has two parents.
+    pub(crate) fn inherits_singly(&self) -> bool
+        ensures { result ≡ list_all (λ row. nat_lt (length row) 2) (parent_numbers self.now) }
+    {
+        self.parents.iter().all(|row| row.len() < 2)
     }
 
     /// The numbers of a class and of its ancestors, in ascending order.

@@ -2,6 +2,7 @@
 //! of declarations by number.
 #![tactic(auto)]
 
+mod agreeing;
 mod ancestors;
 mod by_class;
 mod clash;
@@ -15,7 +16,9 @@ mod numbering;
 mod numbers;
 mod overriding;
 mod places;
+mod queue;
 mod rules;
+mod unbroken;
 
 pub use by_class::ClassRule;
 pub use clash::Clash;

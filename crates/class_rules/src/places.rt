@@ -16,7 +16,8 @@ use use_lists::Items;
 /// Where the classes of names stand.
 pub(crate) type Places = BTreeMap<Text, usize>;
 
-fn add_place(places: &mut Places, text: Text, place: usize) -> Result<(), AllocError>
+/// A name stands at this place, unless it stands at another already.
+pub(crate) fn add_place(places: &mut Places, text: Text, place: usize) -> Result<(), AllocError>
     ensures { OnOk result ((t : List ℕ) → place_in places.new t ≡ option_or (place_in places.old t) (some_if (same_text text t) place)) }
 {
     if places.contains_key(&text) {

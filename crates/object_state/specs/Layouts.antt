@@ -5,6 +5,7 @@ use Rattle.std.specs.Option.{option_and_then, option_map_or}
 use Rattle.ocl_values.specs.declared.value.Value.{Value}
 use Rattle.class_model.specs.declared.numbers.End.{End}
 use Rattle.class_model.specs.declared.numbers.End.TheVariants.{First, Second}
+use Rattle.class_model.specs.declared.object_model.Association.{Association}
 use Rattle.class_model.specs.declared.object_model.ObjectModel.{ObjectModel}
 use Rattle.class_model.specs.Features as model
 use Rattle.class_model.specs.Inheritance as model_classes
@@ -17,11 +18,17 @@ use Rattle.object_state.specs.declared.objects.Object.{Object}
 abbrev pub class_layout : ObjectModel → ℕ → Bool → ClassLayout
 class_layout m c is_abstract = record { is_abstract = is_abstract; attrs = model.attrs m c; ancestors = model_classes.ancestors m c }
 
+abbrev pub class_layouts : ObjectModel → List ClassLayout
+class_layouts m = map (λ c. class_layout m c.0 c.1.is_abstract) (enumerate_from 0 m.classes)
+
+abbrev pub assoc_layout : Association → AssocLayout
+assoc_layout a = record { first = a.first.class; second = a.second.class }
+
+abbrev pub assoc_layouts : List Association → List AssocLayout
+assoc_layouts assocs = map assoc_layout assocs
+
 abbrev pub layout_of : ObjectModel → Layout
-layout_of m = record {
-  classes = map (λ c. class_layout m c.0 c.1.is_abstract) (enumerate_from 0 m.classes);
-  assocs = map (λ a. record { first = a.first.class; second = a.second.class }) m.assocs;
-}
+layout_of m = record { classes = class_layouts m; assocs = assoc_layouts m.assocs }
 
 abbrev pub is_abstract : Layout → ℕ → Bool
 is_abstract l c = option_map_or (λ x. x.is_abstract) (slice_get l.classes c) false

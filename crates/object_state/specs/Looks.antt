@@ -37,6 +37,13 @@ joined s a e o = map (λ entry. end_of entry.1 e) (filter (has_at a (opposite e)
 abbrev pub extent : Layout → State → ℕ → List ℕ
 extent l s c = map (λ e. e.0) (filter (λ e. is_a l e.1.class c) s.objects)
 
+-- what is listed: the numbers of the live objects, and the pairs that an association links, by stamps
+abbrev pub object_numbers : State → List ℕ
+object_numbers s = map (λ e. e.0) s.objects
+
+abbrev pub linked_pairs : State → ℕ → List (ℕ × ℕ)
+linked_pairs s a = map (λ e. e.1) (filter (λ e. nat_eq e.0.0 a) s.links)
+
 -- looks from what is seen
 abbrev pub class_look : Option ℕ → Look
 class_look None = L.Absent

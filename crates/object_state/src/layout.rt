@@ -1,10 +1,12 @@
-ghost use Rattle.std.specs.Prelude.{◌≡◌};
+ghost use Rattle.std.specs.Prelude.{◌≡◌, ◌<◌, length, map, IfOk};
+ghost use Rattle.std.specs.List.{enumerate_from};
 ghost use Rattle.std.specs.Option.{option_copied};
-ghost use Rattle.object_state.specs.Layouts.{ancestors, attrs, class_at, is_a, is_abstract, may_stand, place, slot};
+ghost use Rattle.object_state.specs.Layouts.{ancestors, assoc_layouts, attrs, class_at, class_layout, class_layouts, is_a, is_abstract, layout_of, may_stand, place, slot};
 
 use crate::Object;
-use class_model::{AssocNo, AttrNo, ClassNo, End};
+use class_model::{AssocNo, Association, AttrNo, ClassModel, ClassNo, End};
 use ocl_values::Value;
+use std::alloc::{AllocError, Global};
 use use_lists::Items;
 
 /// What states need of a class.
@@ -43,7 +45,60 @@ impl AssocLayout {
     }
 }
 
+/// What states need of a class of a model.
+fn class_layout(
+    alloc: Global,
+    model: &ClassModel,
+    class: ClassNo,
+    is_abstract: bool,
+) -> Result<ClassLayout, AllocError>
+    requires { class < length model.now.classes }
+    ensures { IfOk result (λ layout. layout ≡ class_layout model.now class is_abstract) }
+{
+    Ok(ClassLayout {
+        is_abstract,
+        attrs: Items::from_slice(alloc, model.attrs(class))?,
+        ancestors: Items::from_slice(alloc, model.ancestors(class))?,
+    })
+}
+
+/// What states need of all classes of a model.
+fn class_layouts(alloc: Global, model: &ClassModel) -> Result<Items<ClassLayout>, AllocError>
+    ensures { IfOk result (λ layouts. layouts ≡ class_layouts model.now) }
+{
+    model.has_numbers_in_range();
+    let mut layouts = Items::new(alloc);
+    'classes: for (class, known) in model.as_model().classes.as_slice().iter().enumerate() {
+        let layout = class_layout(alloc, model, class as u32, known.is_abstract)?;
+        layouts.push(layout)?;
+    }
+    Ok(layouts)
+}
+
+/// The classes at the ends of all associations of a model.
+fn assoc_layouts(alloc: Global, assocs: &[Association]) -> Result<Items<AssocLayout>, AllocError>
+    ensures { IfOk result (λ layouts. layouts ≡ assoc_layouts assocs.now) }
+{
+    let mut layouts = Items::new(alloc);
+    'assocs: for assoc in assocs {
+        layouts.push(AssocLayout {
+            first: assoc.first.class,
+            second: assoc.second.class,
+        })?;
+    }
+    Ok(layouts)
+}
+
 impl Layout {
+    /// The layout of a model.
+    pub fn of(alloc: Global, model: &ClassModel) -> Result<Layout, AllocError>
+        ensures { IfOk result (λ layout. layout ≡ layout_of model.now) }
+    {
+        let classes = class_layouts(alloc, model)?;
+        let assocs = assoc_layouts(alloc, model.as_model().assocs.as_slice())?;
+        Ok(Layout { classes, assocs })
+    }
+
     /// Whether a class is abstract; what is no class is not.
     pub fn is_abstract(&self, class: ClassNo) -> bool
         ensures { result ≡ is_abstract self.now class }

@@ -1,4 +1,4 @@
-ghost use Rattle.std.specs.Prelude.{◌≡◌, IfOk, filter, find, map};
+ghost use Rattle.std.specs.Prelude.{◌≡◌, IfOk, filter, find, map, nat_eq};
 ghost use Rattle.std.specs.BTreeMap.{is_at};
 ghost use Rattle.std.specs.Option.{option_copied, option_map};
 ghost use Rattle.ocl_values.specs.declared.value.Value.TheVariants.{Obj};
@@ -58,6 +58,47 @@ fn objects_in(
         .filter(|entry| layout.is_a(entry.1.class, class))
         .map(|entry| Value::Obj(entry.0))
         .collect(alloc)
+}
+
+/// The numbers of some objects.
+fn numbers_of(alloc: Global, objects: &[(ObjNo, Object)]) -> Result<Items<ObjNo>, AllocError>
+    ensures { IfOk result (λ numbers. numbers ≡ map (λ e. e.0) objects.now) }
+{
+    let mut numbers = Items::new(alloc);
+    'objects: for entry in objects {
+        numbers.push(entry.0)?;
+    }
+    Ok(numbers)
+}
+
+/// The pairs that an association links.
+fn pairs_in(
+    alloc: Global,
+    links: &[(LinkKey, (ObjNo, ObjNo))],
+    assoc: AssocNo,
+) -> Result<Vec<(ObjNo, ObjNo)>, AllocError>
+    ensures { IfOk result (λ v. v.items ≡ map (λ e. e.1) (filter (λ e. nat_eq e.0.0 assoc) links.now)) }
+{
+    links
+        .iter()
+        .filter(|entry| entry.0.0 == assoc)
+        .map(|entry| entry.1)
+        .collect(alloc)
+}
+
+/// Copies of some variables.
+fn copies_of(
+    alloc: Global,
+    variables: &[(Text, Variable)],
+) -> Result<Items<(Text, Variable)>, AllocError>
+    ensures { IfOk result (λ items. items ≡ variables.now) }
+{
+    let mut copies = Items::new(alloc);
+    'variables: for entry in variables {
+        let name = Text::copy_of(alloc, entry.0.as_str())?;
+        copies.push((name, entry.1.try_copy(alloc)?))?;
+    }
+    Ok(copies)
 }
 
 impl StateReader for PlainStore {
@@ -128,5 +169,20 @@ impl StateReader for PlainStore {
     fn objects_of(&self, alloc: Global, class: ClassNo) -> Result<Items<Value>, AllocError> {
         let items = objects_in(alloc, self.objects.as_slice(), &self.layout, class)?;
         Ok(Items::from_vec(items))
+    }
+
+    fn objects(&self, alloc: Global) -> Result<Items<ObjNo>, AllocError> {
+        let numbers = numbers_of(alloc, self.objects.as_slice())?;
+        Ok(numbers)
+    }
+
+    fn links(&self, alloc: Global, assoc: AssocNo) -> Result<Items<(ObjNo, ObjNo)>, AllocError> {
+        let pairs = pairs_in(alloc, self.links.as_slice(), assoc)?;
+        Ok(Items::from_vec(pairs))
+    }
+
+    fn variables(&self, alloc: Global) -> Result<Items<(Text, Variable)>, AllocError> {
+        let copies = copies_of(alloc, self.variables.as_slice())?;
+        Ok(copies)
     }
 }

@@ -3,7 +3,7 @@ ghost use Rattle.std.specs.Option.{option_copied, option_map};
 ghost use Rattle.std.specs.Result.{result_err};
 ghost use Rattle.ocl_values.specs.declared.value.Value.TheVariants.{Obj};
 ghost use Rattle.object_state.specs.Faults.{OldPartsAgree, fault};
-ghost use Rattle.object_state.specs.Looks.{extent, joined, look};
+ghost use Rattle.object_state.specs.Looks.{extent, joined, linked_pairs, look, object_numbers};
 ghost use Rattle.object_state.specs.State.{object, object_named, stamp_of, variable};
 ghost use Rattle.object_state.specs.Valid.{IsValid};
 ghost use Rattle.object_state.specs.Weights.{weight};
@@ -12,7 +12,7 @@ use crate::fitting::fault;
 use crate::looks::look_at;
 use crate::{Cell, Change, Layout, Look, Object, StoreFault, Variable};
 use class_model::{AssocNo, ClassNo, End};
-use ocl_values::{ObjNo, Value};
+use ocl_values::{ObjNo, Text, Value};
 use std::alloc::{AllocError, Global};
 use use_lists::Items;
 
@@ -75,6 +75,18 @@ pub trait StateReader {
     /// The live objects of a class and its descendants, by number.
     fn objects_of(&self, alloc: Global, class: ClassNo) -> Result<Items<Value>, AllocError>
         ensures { IfOk result (λ items. items ≡ map Obj (extent (held self.now).layout (held self.now).state class)) };
+
+    /// The numbers of the live objects, in their order.
+    fn objects(&self, alloc: Global) -> Result<Items<ObjNo>, AllocError>
+        ensures { IfOk result (λ items. items ≡ object_numbers (held self.now).state) };
+
+    /// The pairs that an association links, by stamps.
+    fn links(&self, alloc: Global, assoc: AssocNo) -> Result<Items<(ObjNo, ObjNo)>, AllocError>
+        ensures { IfOk result (λ items. items ≡ linked_pairs (held self.now).state assoc) };
+
+    /// Copies of the variables, in the order of their names.
+    fn variables(&self, alloc: Global) -> Result<Items<(Text, Variable)>, AllocError>
+        ensures { IfOk result (λ items. items ≡ (held self.now).state.variables) };
 
     /// The name of a live object.
     fn name_of(&self, number: ObjNo) -> Option<&str>

@@ -4,14 +4,13 @@ use Rattle.std.specs.Char.{to_ascii_lowercase}
 use Rattle.std.specs.List.{list_any}
 use Rattle.std.specs.Str.Lossy.{utf8_lossy}
 use Rattle.use_text.specs.declared.token.Token.{Token}
-use Rattle.use_text.specs.declared.token.TokenKind.TheVariants as k
 use Rattle.use_text.specs.Kinds.{number_of}
-use Rattle.use_text.specs.Pieces.{number_of_digits}
 use Rattle.use_text.specs.Tokens.{Tokens, tokens}
 use Rattle.grammar_core.specs.Trees.{ParseTree}
 use Rattle.use_syntax.specs.Firsts.{names}
 use Rattle.use_syntax.specs.Reading.{place_or}
-use Rattle.use_nodes.specs.Nodes.{is_token, token_in}
+use Rattle.use_nodes.specs.Nodes.{token_in}
+use Rattle.use_nodes.specs.Written.{number_in}
 use Rattle.class_decls.specs.declared.decls.Name.{Name}
 
 -- tokens, and the text in which they stand
@@ -37,7 +36,7 @@ name_at l t = record { text = text_at l t; place = place_or (token_in l.tokens t
 
 -- the number that a token writes, if it writes one
 abbrev pub number_at : LexedText → ParseTree → Option ℤ
-number_at l t = if is_token k.Int t then number_of_digits (bytes_at l t) else None
+number_at l t = number_in l.text l.tokens t
 
 -- the first letter in ASCII lower case
 abbrev pub lowered : List ℕ → List ℕ

@@ -19,7 +19,7 @@ pub(crate) trait Declared: Drop + Sized {
 }
 
 /// Adds an item, if there is one.
-pub(crate) fn push_some<T: Drop>(item: Option<T>, items: &mut Vec<T>) -> Result<(), AllocError>
+pub fn push_some<T: Drop>(item: Option<T>, items: &mut Vec<T>) -> Result<(), AllocError>
     ensures { OnOk result (items.new.items ≡ items.old.items ++ cons_option item []) }
 {
     match item {

@@ -9,11 +9,11 @@ use std::alloc::{AllocError, Global};
 use std::marker::Model;
 use use_nodes::NodeRef;
 use use_syntax::Parsed;
-use use_text::{Place, Token, TokenKind, number_of_digits};
+use use_text::{Place, Token};
 
 /// Tokens, and the text in which they stand.
 #[derive(Drop)]
-pub(crate) struct Lexed<'a> {
+pub struct Lexed<'a> {
     text: &'a [u8],
     tokens: &'a [Token],
 }
@@ -41,7 +41,7 @@ fn place_or(token: Option<Token>) -> Place
 
 impl<'a> Lexed<'a> {
     /// The tokens and the text of what was read.
-    pub(crate) fn of(parsed: &'a Parsed) -> Lexed<'a>
+    pub fn of(parsed: &'a Parsed) -> Lexed<'a>
         requires { All (IsWithin (length parsed.now.text)) parsed.now.tokens }
         ensures { result ≡ record { text = parsed.now.text; tokens = parsed.now.tokens } }
     {
@@ -52,7 +52,7 @@ impl<'a> Lexed<'a> {
     }
 
     /// The bytes of a token.
-    pub(crate) fn bytes_at(&self, node: &NodeRef<'_>) -> &'a [u8]
+    pub fn bytes_at(&self, node: &NodeRef<'_>) -> &'a [u8]
         ensures { result.now ≡ bytes_at self.now node.now }
     {
         match node.token_in(self.tokens) {
@@ -62,7 +62,7 @@ impl<'a> Lexed<'a> {
     }
 
     /// The same as a text.
-    pub(crate) fn text_at(&self, alloc: Global, node: &NodeRef<'_>) -> Result<Text, AllocError>
+    pub fn text_at(&self, alloc: Global, node: &NodeRef<'_>) -> Result<Text, AllocError>
         ensures { IfOk result (λ t. t ≡ text_at self.now node.now) }
     {
         let text = String::from_utf8_lossy(alloc, self.bytes_at(node))?;
@@ -70,14 +70,14 @@ impl<'a> Lexed<'a> {
     }
 
     /// Where a token stands.
-    pub(crate) fn place_at(&self, node: &NodeRef<'_>) -> Place
+    pub fn place_at(&self, node: &NodeRef<'_>) -> Place
         ensures { result ≡ (name_at self.now node.now).place }
     {
         place_or(node.token_in(self.tokens))
     }
 
     /// A name that is written.
-    pub(crate) fn name_at(&self, alloc: Global, node: &NodeRef<'_>) -> Result<Name, AllocError>
+    pub fn name_at(&self, alloc: Global, node: &NodeRef<'_>) -> Result<Name, AllocError>
         ensures { IfOk result (λ n. n ≡ name_at self.now node.now) }
     {
         Ok(Name {
@@ -87,13 +87,9 @@ impl<'a> Lexed<'a> {
     }
 
     /// The number that a token writes, if it writes one.
-    pub(crate) fn number_at(&self, node: &NodeRef<'_>) -> Option<i128>
+    pub fn number_at(&self, node: &NodeRef<'_>) -> Option<i128>
         ensures { result ≡ number_at self.now node.now }
     {
-        if node.is_token(TokenKind::Int) {
-            number_of_digits(self.bytes_at(node))
-        } else {
-            None
-        }
+        node.number_in(self.text, self.tokens)
     }
 }

@@ -14,6 +14,9 @@ mod types;
 mod unbuilt;
 
 pub use declarations::decls;
+pub use declared::push_some;
+pub use lexed::Lexed;
+pub use types::{kind_at, type_decl, type_if};
 pub use unbuilt::has_unbuilt_parts;
 
 #[cfg(test)]

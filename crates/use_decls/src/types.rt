@@ -14,7 +14,7 @@ use use_text::TokenKind;
 const MAX_DEPTH: usize = 200;
 
 /// The kind of collection that a word names.
-fn kind_at(word: &NodeRef<'_>) -> Kind
+pub fn kind_at(word: &NodeRef<'_>) -> Kind
     ensures { result ≡ kind_at word.now }
 {
     if word.is_token(TokenKind::Set) {
@@ -71,7 +71,7 @@ fn type_in(
 }
 
 /// A type.
-pub(crate) fn type_decl(
+pub fn type_decl(
     alloc: Global,
     lexed: &Lexed<'_>,
     node: &NodeRef<'_>,
@@ -82,7 +82,7 @@ pub(crate) fn type_decl(
 }
 
 /// A type that may be absent.
-pub(crate) fn type_if(
+pub fn type_if(
     alloc: Global,
     lexed: &Lexed<'_>,
     node: &Option<NodeRef<'_>>,

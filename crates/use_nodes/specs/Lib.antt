@@ -7,3 +7,4 @@ pub mod CommandNodes
 pub mod ModelNodes
 pub mod Whole
 pub mod Typed
+pub mod Written

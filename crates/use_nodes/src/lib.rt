@@ -9,6 +9,7 @@ mod node;
 mod parts;
 mod statements;
 mod types;
+mod written;
 
 pub use commands::{
     CheckNode, CommandNode, EnterNode, ExecuteNode, ExitNode, InfoNode, QueryNode, ViewNode,

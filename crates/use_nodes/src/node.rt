@@ -172,10 +172,14 @@ impl<'a> NodeRef<'a> {
     pub fn through(&self, rules: &[Rule]) -> Option<NodeRef<'a>>
         ensures { result ≡ through rules.now self.now }
     {
-        match rules {
-            [] => Some(self.copy()),
-            [first, rest @ ..] => self.alone(*first)?.through(rest),
+        let mut node = self.copy();
+        'rules: for rule in rules {
+            match node.alone(*rule) {
+                Some(next) => node = next,
+                None => return None,
+            }
         }
+        Some(node)
     }
 }
 

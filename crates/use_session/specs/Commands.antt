@@ -1,5 +1,5 @@
 -- Commands, as they are read from their trees.
-use Rattle.std.specs.Prelude.{ℕ, ◌&&◌, not, true, nat_le, if◌then◌else◌, Bool, codes, take, drop, List, [], ◌∷◌, length, Option, Some, None, is_some, ℤ, slice_range}
+use Rattle.std.specs.Prelude.{ℕ, ◌&&◌, not, true, nat_le, if◌then◌else◌, Bool, codes, take, drop, List, [], ◌∷◌, length, Option, Some, None, is_some, ℤ}
 use Rattle.use_text.specs.declared.cut.Cut.{Cut}
 use Rattle.use_text.specs.declared.cut.Fate.{Fate}
 use Rattle.use_text.specs.declared.cut.Fate.TheVariants.{Whole, TooLong, Unfinished}
@@ -10,29 +10,22 @@ use Rattle.use_text.specs.declared.code.Family.TheVariants.{K, S}
 use Rattle.use_text.specs.Codes.{code_of}
 use Rattle.use_text.specs.Places.{place_at, behind_all}
 use Rattle.use_text.specs.Refusals.{refusal_at}
-use Rattle.use_text.specs.Pieces.{white_length, is_name_byte, begins, number_of_digits}
+use Rattle.use_text.specs.Pieces.{white_length, is_name_byte, begins}
 use Rattle.grammar_core.specs.Trees.{ParseTree}
 use Rattle.use_syntax.specs.declared.rule.Rule.TheVariants as r
 use Rattle.use_syntax.specs.Reading.{Reading, parsed, refused, read_command}
 use Rattle.use_nodes.specs.declared.commands.CommandNode.{CommandNode}
 use Rattle.use_nodes.specs.declared.commands.QueryNode.{QueryNode}
-use Rattle.use_nodes.specs.Nodes.{and_then, child, has, is_token, place_of_first, through, token_in}
+use Rattle.use_nodes.specs.Nodes.{and_then, child, has, place_of_first, through}
 use Rattle.use_nodes.specs.CommandNodes.{command_node, query_node}
+use Rattle.use_nodes.specs.Written.{number_in}
 use Rattle.use_nodes.specs.ExpressionNodes.{chain_node}
 use Rattle.use_session.specs.declared.command.Command.{Command}
 use Rattle.use_session.specs.declared.command.Command.TheVariants.{Empty, Query, Refused}
 
--- the number that a token writes
-abbrev pub number_written : List ℕ → Token → Option ℤ
-number_written text t = number_of_digits (slice_range text t.start t.end)
-
--- the number that a node writes, where it is a token that does
-abbrev pub literal : List ℕ → List Token → ParseTree → Option ℤ
-literal text ts t = if is_token k.Int t then and_then (token_in ts t) (number_written text) else None
-
 -- an operand that is a number alone
 abbrev pub operand : List ℕ → List Token → ParseTree → Option ℤ
-operand text ts t = and_then (through (r.Unary ∷ r.Postfix ∷ r.Primary ∷ []) t) (λ primary. and_then (child 0 primary) (literal text ts))
+operand text ts t = and_then (through (r.Unary ∷ r.Postfix ∷ r.Primary ∷ []) t) (λ primary. and_then (child 0 primary) (number_in text ts))
 
 -- all operands, where each is a number
 abbrev pub operands : List ℕ → List Token → List ParseTree → Option (List ℤ)

@@ -58,11 +58,10 @@ fn write_value(
 }
 
 /// Writes a refusal.
-fn write_refusal(alloc: Global, refusal: Refusal, out: &mut Vec<u8>) -> Result<(), AllocError>
+fn write_refusal(refusal: Refusal, out: &mut Vec<u8>) -> Result<(), AllocError>
     ensures { OnOk result (out.new.items ≡ out.old.items ++ refusal_line refusal) }
 {
-    let text = refusal.to_string(alloc)?;
-    out.extend_from_slice(text.as_bytes())?;
+    refusal.append_to(out)?;
     out.extend_from_slice(b"\n")
 }
 
@@ -79,7 +78,7 @@ pub fn carry_out(alloc: Global, command: &Command, out: &mut Vec<u8>) -> Result<
             Ok(Turn::Quiet)
         }
         Command::Refused(refusal) => {
-            write_refusal(alloc, *refusal, out)?;
+            write_refusal(*refusal, out)?;
             Ok(Turn::Refused(refusal.code))
         }
     }

@@ -1,13 +1,13 @@
 ghost use Rattle.std.specs.Prelude.{◌≡◌, IfOk, OnOk, [], ◌∷◌, ◌++◌, IfSome, All, length};
 ghost use Rattle.std.specs.Int.{IsNonNegative};
 ghost use Rattle.use_text.specs.Tokens.{IsWithin};
-ghost use Rattle.use_session.specs.Commands.{literal, numbers_in, operand, operands, query_numbers, summands, sums_of};
+ghost use Rattle.use_session.specs.Commands.{numbers_in, operand, operands, query_numbers, summands, sums_of};
 
 use std::alloc::{AllocError, Global};
 use use_lists::Items;
 use use_nodes::{ChainNode, NodeRef, Parts, QueryNode};
 use use_syntax::{Parsed, Rule};
-use use_text::{Token, TokenKind, number_of_digits};
+use use_text::{Token, TokenKind};
 
 /// The rules above a sum, from an expression on, and a sum's.
 const SUMS: [Rule; 6] = [
@@ -19,19 +19,6 @@ const SUMS: [Rule; 6] = [
     Rule::Sums,
 ];
 
-/// The number that a node writes, where it is a token that does.
-fn literal(text: &[u8], tokens: &[Token], node: &NodeRef<'_>) -> Option<i128>
-    requires { All (IsWithin (length text.now)) tokens.now }
-    ensures number { result ≡ literal text.now tokens.now node.now }
-    ensures not_negative { IfSome result IsNonNegative }
-{
-    if !node.is_token(TokenKind::Int) {
-        return None;
-    }
-    let token = node.token_in(tokens)?;
-    number_of_digits(&text[token.start as usize..token.end as usize])
-}
-
 /// An operand that is a number alone.
 fn operand(text: &[u8], tokens: &[Token], node: &NodeRef<'_>) -> Option<i128>
     requires { All (IsWithin (length text.now)) tokens.now }
@@ -39,7 +26,7 @@ fn operand(text: &[u8], tokens: &[Token], node: &NodeRef<'_>) -> Option<i128>
     ensures not_negative { IfSome result IsNonNegative }
 {
     let primary = node.through(&[Rule::Unary, Rule::Postfix, Rule::Primary])?;
-    literal(text, tokens, &primary.child(0)?)
+    primary.child(0)?.number_in(text, tokens)
 }
 
 fn push_number(numbers: &mut Items<i128>, number: i128) -> Result<(), AllocError>

@@ -76,6 +76,7 @@ fn answer_waiting<L: Ledger>(
         if answer(session, &cut, out, steps)? {
             return Ok(true);
         }
+        cutter.take_back(cut);
     }
     Ok(false)
 }

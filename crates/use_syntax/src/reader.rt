@@ -31,9 +31,10 @@ fn place_in(tokens: &[Token], at: u32) -> Place
     }
 }
 
-/// Reads the tokens of a text as a rule.
+/// Reads the tokens of a text as a rule. Tokens that are refused go back to the room of the next.
 fn read_tokens(
     parser: &mut Parser,
+    room: &mut Tokens,
     g: &Grammar,
     start: Rule,
     tokens: Tokens,
@@ -46,14 +47,22 @@ fn read_tokens(
     match parser.parse(g, start.number(), tokens.as_slice()) {
         Ok(tree) => Ok(TokenTree { tree, tokens }),
         Err(ParseFault::Memory) => Err(SyntaxFault::Memory),
-        Err(ParseFault::Stuck { token }) => Err(SyntaxFault::Refused(Refusal {
-            code: Code::S1,
-            place: place_in(tokens.as_slice(), token),
-        })),
-        Err(ParseFault::Deep { token }) => Err(SyntaxFault::Refused(Refusal {
-            code: Code::S2,
-            place: place_in(tokens.as_slice(), token),
-        })),
+        Err(ParseFault::Stuck { token }) => {
+            let place = place_in(tokens.as_slice(), token);
+            *room = tokens;
+            Err(SyntaxFault::Refused(Refusal {
+                code: Code::S1,
+                place,
+            }))
+        }
+        Err(ParseFault::Deep { token }) => {
+            let place = place_in(tokens.as_slice(), token);
+            *room = tokens;
+            Err(SyntaxFault::Refused(Refusal {
+                code: Code::S2,
+                place,
+            }))
+        }
     }
 }
 
@@ -83,7 +92,7 @@ impl Reader {
     {
         let room = mem::replace(&mut self.tokens, Items::new(self.alloc));
         match lex_into(room, text, first_line) {
-            Ok(tokens) => read_tokens(&mut self.parser, g, start, tokens),
+            Ok(tokens) => read_tokens(&mut self.parser, &mut self.tokens, g, start, tokens),
             Err(LexFault::Memory) => Err(SyntaxFault::Memory),
             Err(LexFault::Bad(refusal)) => Err(SyntaxFault::Refused(refusal)),
         }

@@ -1,4 +1,5 @@
 pub mod PieceLemmas
+pub mod PlaceLemmas
 pub mod TokenLemmas
 pub mod LineLemmas
 pub mod CutLemmas

@@ -44,7 +44,7 @@ pub struct Code {
 impl Family {
     ghost use Rattle.use_text.specs.Codes.{letter_of};
 
-    fn letter(self) -> &'static str
+    pub(crate) fn letter(self) -> &'static str
         ensures { result.now ≡ letter_of self }
     {
         match self {

@@ -84,6 +84,13 @@ impl Cutter {
         self.waiting.pop_front()
     }
 
+    /// Takes back a command that is needed no more, for the text of a later one.
+    pub fn take_back(&mut self, cut: Cut)
+        ensures { self.new ≡ self.old }
+    {
+        self.pending.take_back(cut.text.into_vec());
+    }
+
     /// Says that the input has ended, and gives the command that its end cut off, if there is one.
     /// The cutter is then as new.
     pub fn finish(&mut self) -> Option<Cut>

@@ -7,7 +7,7 @@ ghost use Rattle.use_text.specs.Limits.{max_lines, max_text};
 ghost use Rattle.use_text.specs.Pieces.{piece_of};
 ghost use Rattle.use_text.specs.declared.piece.Piece.TheVariants.{White, Token as TokenPiece};
 
-use crate::piece::{Piece, piece_of};
+use crate::piece::{Piece, line_length, piece_of};
 use crate::{Code, Place, Refusal, Token, TokenKind, Tokens};
 use std::alloc::{AllocError, AllocFailed, Global};
 use thiserror::Error;
@@ -78,6 +78,13 @@ pub fn behind_all(place: Place, bytes: &[u8]) -> Place
     ensures place { result ≡ behind_all place bytes.now }
     ensures advanced { IsAdvanced place result (length bytes.now) }
 {
+    // Most bytes that are read at once stand in one line.
+    if line_length(bytes) == bytes.len() {
+        return Place {
+            line: place.line,
+            col: place.col + bytes.len() as u32,
+        };
+    }
     let mut place = place;
     'bytes: for b in bytes {
         place = behind(place, *b);

@@ -1,4 +1,4 @@
-ghost use Rattle.std.specs.Prelude.{◌≡◌, ◌≤◌, ◌+◌, IfSome, OnSome, OnOk, OnErr, IfOk, vec_len, option_to_list, None};
+ghost use Rattle.std.specs.Prelude.{◌≡◌, [], ◌≤◌, ◌+◌, IfSome, OnSome, OnOk, OnErr, IfOk, vec_len, option_to_list, None};
 ghost use Rattle.std.specs.Option.{option_map};
 ghost use Rattle.use_text.specs.Cuts.{IsCommand};
 ghost use Rattle.use_text.specs.Limits.{max_command, max_lines};
@@ -14,6 +14,11 @@ use std::mem;
 /// The most bytes of a command.
 const MAX_COMMAND: usize = 65536;
 
+/// The most texts that are kept for later ones, and the most bytes of memory of each.
+const MAX_SPARE: usize = 512;
+
+const SHORT: usize = 256;
+
 /// What of the stream has not ended: an open line, and the open block, if the line is in one.
 #[derive(Drop)]
 pub struct Pending {
@@ -24,6 +29,8 @@ pub struct Pending {
     is_long: bool,
     marks: LineMarks,
     block: Option<OpenBlock>,
+    /// Texts that are needed no more, for later ones. They are few and short.
+    spare: Vec<Vec<u8>>,
 }
 
 impl Model for Pending {
@@ -54,6 +61,30 @@ impl Pending {
             is_long: false,
             marks: LineMarks::of(&[]),
             block: None,
+            spare: Vec::new(alloc),
+        }
+    }
+
+    /// Takes back a text that is needed no more, for a later one.
+    pub fn take_back(&mut self, text: Vec<u8>)
+        ensures { self.new ≡ self.old }
+    {
+        if text.capacity() <= SHORT && self.spare.len() < MAX_SPARE {
+            let _ = self.spare.push(text);
+        }
+    }
+
+    /// The memory of a text that was taken back, or none.
+    fn take_spare(&mut self, alloc: Global) -> Vec<u8>
+        ensures text { result.items ≡ [] }
+        ensures same { self.new ≡ self.old }
+    {
+        match self.spare.pop() {
+            Some(mut text) => {
+                text.clear();
+                text
+            }
+            None => Vec::new(alloc),
         }
     }
 
@@ -219,7 +250,8 @@ impl Pending {
         ensures bound { self.new.held ≤ max_command }
     {
         self.block = None;
-        let bytes = mem::replace(&mut self.bytes, Vec::new(alloc));
+        let room = self.take_spare(alloc);
+        let bytes = mem::replace(&mut self.bytes, room);
         let is_long = self.is_long;
         self.restart();
         text_cut(bytes, is_long, first_line, fate)

@@ -1,4 +1,4 @@
-ghost use Rattle.std.specs.Prelude.{◌≡◌, ◌^◌, ◌-◌, ◌+◌, ◌<◌, ◌≤◌, ◌∷◌, List, ℕ, false, min, length, drop, take_while};
+ghost use Rattle.std.specs.Prelude.{◌≡◌, ◌^◌, ◌-◌, ◌+◌, ◌*◌, ◌<◌, ◌≤◌, ◌∷◌, List, ℕ, false, min, length, drop, take_while};
 ghost use Rattle.use_text.specs.declared.words.TheConstants.{SYMBOLS};
 ghost use Rattle.use_text.specs.Pieces.{is_white, white_length, is_letter, is_digit, is_name_byte, is_in_line, digits_value, same_text, begins, kind_among, word_kind, word_piece, number_of_digits, number_piece, string_end, string_piece, comment_end, comment_piece, at_piece, symbol_among, symbol_piece, mark_piece, piece_of};
 
@@ -62,7 +62,8 @@ fn digits_length(bytes: &[u8]) -> usize
     bytes.iter().take_while(|b| is_digit(**b)).count()
 }
 
-fn line_length(bytes: &[u8]) -> usize
+/// How many bytes stand before the first line feed.
+pub(crate) fn line_length(bytes: &[u8]) -> usize
     ensures { result ≡ length (take_while is_in_line bytes.now) }
 {
     bytes.iter().take_while(|b| **b != b'\n').count()
@@ -71,7 +72,12 @@ fn line_length(bytes: &[u8]) -> usize
 fn is_word(word: &[u8], text: &str) -> bool
     ensures { result ≡ same_text word.now text.now }
 {
-    word == text.as_bytes()
+    // Most rows of a table differ in their first byte.
+    let text = text.as_bytes();
+    match (word, text) {
+        ([w, ..], [t, ..]) if w != t => false,
+        _ => word == text,
+    }
 }
 
 fn begins(bytes: &[u8], front: &str) -> bool
@@ -81,6 +87,7 @@ fn begins(bytes: &[u8], front: &str) -> bool
     let front = front.as_bytes();
     match (bytes, front) {
         ([b, ..], [f, ..]) if b != f => false,
+        ([_, ..], [_]) => true,
         _ => bytes.starts_with(front),
     }
 }
@@ -118,15 +125,24 @@ fn word_piece(word: &[u8]) -> Piece
     }
 }
 
+/// A number with one more digit, or 2 ^ 128 - 1 where it is larger.
+fn with_digit(value: u128, digit: u8) -> u128
+    ensures { result ≡ min (10 * value + digit) (2 ^ 128 - 1) }
+{
+    // Most numbers are small, and a product of two words costs less than one of four.
+    match u64::try_from(value) {
+        Ok(small) => u128::from(small) * 10 + u128::from(digit),
+        Err(_) => value.saturating_mul(10).saturating_add(u128::from(digit)),
+    }
+}
+
 /// The number that digits write, or 2 ^ 128 - 1 where it is larger.
 fn digits_value(digits: &[u8]) -> u128
     ensures { result ≡ min (digits_value digits.now) (2 ^ 128 - 1) }
 {
     let mut value = 0u128;
     'digits: for digit in digits {
-        value = value
-            .saturating_mul(10)
-            .saturating_add(u128::from(digit.saturating_sub(b'0')));
+        value = with_digit(value, digit.saturating_sub(b'0'));
     }
     value
 }
@@ -192,10 +208,14 @@ fn comment_end(bytes: &[u8]) -> Option<usize>
 {
     let mut star = false;
     'bytes: for (i, b) in bytes.iter().enumerate() {
-        if *b == b'/' && star {
+        if *b != b'/' {
+            star = *b == b'*';
+            continue;
+        }
+        if star {
             return Some(i + 3);
         }
-        star = *b == b'*';
+        star = false;
     }
     None
 }

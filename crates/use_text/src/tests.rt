@@ -229,7 +229,10 @@ fn codes_have_texts(rt: HostRuntime) -> Result<(), Fail> {
             code: Code { family, number },
             place: Place { line: 3, col: 4 },
         };
+        let mut out = Vec::new(alloc);
+        refusal.append_to(&mut out)?;
         assert_eq!(rt; format!(in alloc; "{refusal}")?.as_str(), want);
+        assert_eq!(rt; out.as_slice(), want.as_bytes());
     }
     assert_eq!(rt; text_of(Code::L4), "string or comment is not closed");
     Ok(())
@@ -262,6 +265,7 @@ fn cuts_of_bytes(alloc: Global, stream: &[u8]) -> Result<String, Fail>
         cutter.feed(&stream[i..i + 1])?;
         'cuts: while let Some(cut) = cutter.next() {
             push_shown(&mut shown, alloc, &cut)?;
+            cutter.take_back(cut);
         }
     }
     if let Some(cut) = cutter.finish() {

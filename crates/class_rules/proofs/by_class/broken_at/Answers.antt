@@ -13,14 +13,6 @@ returns-in_ok-broken-in-RoleClashes c =
       c.decls-decls.ensures,
     ) refl
 
-pub returns-in_ok-above-in-SignatureChanges : goal.returns-in_ok-above-in-SignatureChanges
-returns-in_ok-above-in-SignatureChanges c =
-    rw (c.in-SignatureChanges.is, c.first_clash.ensures, c.as_slice-in-SignatureChanges.ensures.value, c.in_ok-above-in-SignatureChanges.ensures) refl
-
-pub returns-in_ok-above-in-BodiesMixed : goal.returns-in_ok-above-in-BodiesMixed
-returns-in_ok-above-in-BodiesMixed c =
-    rw (c.in-BodiesMixed.is, c.first_clash-in-BodiesMixed.ensures, c.as_slice-in-BodiesMixed.ensures.value, c.in_ok-above-in-BodiesMixed.ensures) refl
-
 pub returns-in_ok-above-in-TooManyContracts : goal.returns-in_ok-above-in-TooManyContracts
 returns-in_ok-above-in-TooManyContracts c =
     rw (

@@ -1,4 +1,4 @@
-use Rattle.std.proofs.Common.{◌≡◌, suc, ap, sym, ◌∙◌, arith}
+use Rattle.std.proofs.Common.{◌≡◌, suc, ap, ◌∙◌, arith}
 use Rattle.class_rules.specs.Numbering.{has_cycle}
 use Rattle.class_rules.proofs.Unnumbered.{closing}
 use Rattle.class_rules.proofs.cycles.+closing_between.Goals as goal

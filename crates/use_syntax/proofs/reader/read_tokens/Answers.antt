@@ -24,14 +24,14 @@ pub returns-in-Err-Stuck-clause-reading : goal.returns-in-Err-Stuck-clause-readi
 returns-in-Err-Stuck-clause-reading c =
     let e = read_stuck c.args.g.now c.args.tokens c.as_slice.result.now (number_of_rule c.args.start) c.number.result c.requires.table c.as_slice.ensures
     c.number.ensures.is c.in-Err-Stuck.token (rw c.in-Err-Stuck.field-0-is at c.in-Err-Stuck.ensures.verdict) in
-    let at : c.place_in.result ≡ place_in c.args.tokens c.in-Err-Stuck.token = rw (← c.in-Err-Stuck.token-is, ← c.as_slice-in-Err-Stuck.ensures)
-    c.place_in.ensures in
+    let at : c.place_in-place.result ≡ place_in c.args.tokens c.in-Err-Stuck.token = rw (← c.in-Err-Stuck.token-is, ← c.as_slice-in-Err-Stuck.ensures)
+    c.place_in-place.ensures in
     e ∙ ap (λ (p : Place). refused (refusal_at (code_of S 1) p)) (sym at)
 
-pub returns-clause-reading : goal.returns-clause-reading
-returns-clause-reading c =
+pub returns-in-Err-Deep-clause-reading : goal.returns-in-Err-Deep-clause-reading
+returns-in-Err-Deep-clause-reading c =
     let e = read_deep c.args.g.now c.args.tokens c.as_slice.result.now (number_of_rule c.args.start) c.number.result c.requires.table c.as_slice.ensures
     c.number.ensures.is c.in-Err-Deep.token (rw c.in-Err-Deep.field-0-is at c.in-Err-Deep.ensures.verdict) in
-    let at : c.place_in-in-Err-Deep.result ≡ place_in c.args.tokens c.in-Err-Deep.token = rw (← c.in-Err-Deep.token-is, ← c.as_slice-in-Err-Deep.ensures)
-    c.place_in-in-Err-Deep.ensures in
+    let at : c.place_in-place-in-Err-Deep.result ≡ place_in c.args.tokens c.in-Err-Deep.token = rw (← c.in-Err-Deep.token-is, ← c.as_slice-in-Err-Deep.ensures)
+    c.place_in-place-in-Err-Deep.ensures in
     e ∙ ap (λ (p : Place). refused (refusal_at (code_of S 2) p)) (sym at)

@@ -1,0 +1,26 @@
+-- Lists of entries after calls that put and take.
+use Rattle.std.proofs.Common.{◌≡◌, List, None, sym, ap, ◌∙◌, subst, Ordering}
+use Rattle.std.specs.BTreeMap.{insert_entry, is_at}
+use Rattle.std.specs.Cmp.{IsTotalOrder}
+use Rattle.std.specs.Map.{lookup, remove_entry}
+use Rattle.std.specs.Prelude.{ℕ}
+use Rattle.std.specs.Result.{IfOk}
+use Rattle.std.specs.declared.result.Result.{Result}
+use Rattle.std.specs.declared.result.Result.TheVariants.{Ok, Err}
+use Rattle.object_store.specs.Indexes.{LinksAreTied}
+use Rattle.object_state.proofs.Keyed.{remove_inserted}
+
+pub restored : {K X : Type 0} {R : K → K → Ordering} (o : IsTotalOrder R) (es mid new : List (K × X)) (k k1 k2 : K) (v : X) → k1 ≡ k → k2 ≡ k
+    → lookup (is_at (R k)) es ≡ None → mid ≡ insert_entry R es k1 v → new ≡ remove_entry (is_at (R k2)) mid → new ≡ es
+restored {R = R} o es mid new k k1 k2 v s t free p q =
+    q ∙ ap (λ m. remove_entry (is_at (R k2)) m) p ∙ (λ i. remove_entry (is_at (R (t i))) (insert_entry R es (s i) v)) ∙ remove_inserted o es k v free
+
+pub if_ok : {T E : Type 0} {P Q : T → Type 0} (r : Result T E) → ((x : T) → P x → Q x) → IfOk r P → IfOk r Q
+if_ok (Ok x) h p = h x p
+if_ok (Err e) h p = tt
+
+pub tied_as : (l l' : List ((ℕ × ℕ) × (ℕ × ℕ))) (s s' : List ((ℕ × (ℕ × ℕ)) × ℕ)) (e e' f f' : List (((ℕ × ℕ) × ℕ) × ℕ))
+    → l' ≡ l → s' ≡ s → e' ≡ e → f' ≡ f → LinksAreTied l s e f → LinksAreTied l' s' e' f'
+tied_as l l' s s' e e' f f' p q r u t =
+    subst (λ x. LinksAreTied x s' e' f') (sym p) (subst (λ x. LinksAreTied l x e' f') (sym q) (subst (λ x. LinksAreTied l s x f') (sym r)
+    (subst (λ x. LinksAreTied l s e x) (sym u) t)))

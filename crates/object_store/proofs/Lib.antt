@@ -1,0 +1,11 @@
+pub mod Listed
+pub mod Grouped
+pub mod Tied
+pub mod Links
+pub mod Named
+pub mod Classed
+pub mod TextKeys
+pub mod Changed
+pub mod Walked
+pub mod Tables
+pub mod Carried

@@ -1,0 +1,95 @@
+-- What indexes must agree with, by look-ups.
+use Rattle.std.specs.Prelude.{◌≡◌, ◌↔◌, ◌<◌, ◌^◌, ℕ, Bool, false, ◌&&◌, nat_eq, List, Option, Some, map, filter}
+use Rattle.std.specs.declared.cmp.Ordering.{Ordering}
+use Rattle.std.specs.BTreeMap.{is_at}
+use Rattle.std.specs.Cmp.Lexicographic.{pointwise}
+use Rattle.std.specs.List.{find, list_any}
+use Rattle.std.specs.List.Sorted.{IsStrictlySortedBy}
+use Rattle.std.specs.Map.{keys_of, lookup}
+use Rattle.std.specs.Option.{option_map, option_map_or}
+use Rattle.std.specs.Ordering.{nat_cmp, ordering_then}
+use Rattle.class_model.specs.declared.numbers.End.{End}
+use Rattle.class_model.specs.Ends.{opposite}
+use Rattle.object_state.specs.declared.layout.Layout.{Layout}
+use Rattle.object_state.specs.declared.objects.Object.{Object}
+use Rattle.object_state.specs.Layouts.{is_a}
+use Rattle.object_state.specs.Looks.{end_of, has_at}
+use Rattle.object_state.specs.State.{link_cmp, text_cmp}
+
+-- an association and the pair that it links; an association, an object and a stamp
+abbrev pub pair_cmp : ℕ × (ℕ × ℕ) → ℕ × (ℕ × ℕ) → Ordering
+pair_cmp a b = ordering_then (nat_cmp a.0 b.0) (link_cmp a.1 b.1)
+
+abbrev pub end_cmp : (ℕ × ℕ) × ℕ → (ℕ × ℕ) × ℕ → Ordering
+end_cmp a b = ordering_then (link_cmp a.0 b.0) (nat_cmp a.1 b.1)
+
+-- an index has an entry for each entry of a list, and no other
+abbrev pub Indexes : {K X J Y : Type 0} → (K → K → Ordering) → (J → J → Ordering) → (K × X → J × Y) → List (K × X) → List (J × Y) → Type 0
+Indexes {K} {X} R S entry es is = (e : K × X) → (lookup (is_at (S (entry e).0)) is ≡ Some (entry e).1) ↔ (lookup (is_at (R e.0)) es ≡ Some e.1)
+
+-- a link by its pair; its ends, each by the other
+abbrev pub by_pair : (ℕ × ℕ) × (ℕ × ℕ) → (ℕ × (ℕ × ℕ)) × ℕ
+by_pair e = ((e.0.0, e.1), e.0.1)
+
+abbrev pub by_first : (ℕ × ℕ) × (ℕ × ℕ) → ((ℕ × ℕ) × ℕ) × ℕ
+by_first e = (((e.0.0, e.1.0), e.0.1), e.1.1)
+
+abbrev pub by_second : (ℕ × ℕ) × (ℕ × ℕ) → ((ℕ × ℕ) × ℕ) × ℕ
+by_second e = (((e.0.0, e.1.1), e.0.1), e.1.0)
+
+-- links, with the stamps of pairs and the objects at both ends
+pub record LinksAreTied (links : List ((ℕ × ℕ) × (ℕ × ℕ))) (stamps : List ((ℕ × (ℕ × ℕ)) × ℕ)) (seconds firsts : List (((ℕ × ℕ) × ℕ) × ℕ)) : Type 0 where
+  pub ordered : IsStrictlySortedBy link_cmp (keys_of links)
+  pub stamps_ordered : IsStrictlySortedBy pair_cmp (keys_of stamps)
+  pub seconds_ordered : IsStrictlySortedBy end_cmp (keys_of seconds)
+  pub firsts_ordered : IsStrictlySortedBy end_cmp (keys_of firsts)
+  pub small : (k : ℕ × ℕ) (pair : ℕ × ℕ) → lookup (is_at (link_cmp k)) links ≡ Some pair → k.1 < 2 ^ 32
+  pub stamps_tied : Indexes link_cmp pair_cmp by_pair links stamps
+  pub seconds_tied : Indexes link_cmp end_cmp by_first links seconds
+  pub firsts_tied : Indexes link_cmp end_cmp by_second links firsts
+
+-- the stamp of a pair that an association links, and the objects at an end of an object
+abbrev pub stamp_in : List ((ℕ × ℕ) × (ℕ × ℕ)) → ℕ → ℕ → ℕ → Option ℕ
+stamp_in links a first second = option_map (λ e. e.0.1) (find (λ e. nat_eq e.0.0 a && nat_eq e.1.0 first && nat_eq e.1.1 second) links)
+
+abbrev pub joined_in : List ((ℕ × ℕ) × (ℕ × ℕ)) → ℕ → End → ℕ → List ℕ
+joined_in links a e o = map (λ entry. end_of entry.1 e) (filter (has_at a (opposite e) o) links)
+
+abbrev pub pairs_in : List ((ℕ × ℕ) × (ℕ × ℕ)) → ℕ → List (ℕ × ℕ)
+pairs_in links a = map (λ e. e.1) (filter (λ e. nat_eq e.0.0 a) links)
+
+-- the objects of a layout
+pub record Objects : Type 0 where
+  pub layout : Layout
+  pub objects : List (ℕ × Object)
+
+abbrev pub object_in : List (ℕ × Object) → ℕ → Option Object
+object_in objects o = lookup (is_at (nat_cmp o)) objects
+
+-- whether there is an object, of a class
+abbrev pub has_class : Layout → Option Object → ℕ → Bool
+has_class l x c = option_map_or (λ x. is_a l x.class c) x false
+
+-- the pairs of a class and an object
+abbrev pub has_pair : List (ℕ × ℕ) → ℕ → ℕ → Bool
+has_pair pairs c o = list_any (is_at (link_cmp (c, o))) pairs
+
+-- whether a pair is of an object and one of some classes
+abbrev pub is_one : List ℕ → ℕ → ℕ → ℕ → Bool
+is_one classes object c o = nat_eq o object && list_any (nat_eq c) classes
+
+-- objects, with the numbers of names, and the objects of each class
+pub record ObjectsAreTied (l : Layout) (objects : List (ℕ × Object)) (names : List (List ℕ × ℕ)) (extents : List (ℕ × ℕ)) : Type 0 where
+  pub ordered : IsStrictlySortedBy nat_cmp (keys_of objects)
+  pub names_ordered : IsStrictlySortedBy text_cmp (keys_of names)
+  pub extents_ordered : IsStrictlySortedBy link_cmp extents
+  pub small : (o : ℕ) (x : Object) → object_in objects o ≡ Some x → o < 2 ^ 32
+  pub names_tied : (name : List ℕ) (o : ℕ) → (lookup (is_at (text_cmp name)) names ≡ Some o) ↔ (option_map (λ x. x.name) (object_in objects o) ≡ Some name)
+  pub extents_tied : (c o : ℕ) → has_pair extents c o ≡ has_class l (object_in objects o) c
+
+-- the number of the object of a name, and the objects of a class and its descendants
+abbrev pub named_in : List (ℕ × Object) → List ℕ → Option ℕ
+named_in objects name = option_map (λ e. e.0) (find (λ e. pointwise nat_eq e.1.name name) objects)
+
+abbrev pub extent_in : Layout → List (ℕ × Object) → ℕ → List ℕ
+extent_in l objects c = map (λ e. e.0) (filter (λ e. is_a l e.1.class c) objects)

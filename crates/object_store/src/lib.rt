@@ -1,0 +1,26 @@
+//! Object diagrams with indexes: a change costs the logarithm of what there is, a look its result.
+#![tactic(auto)]
+
+mod entries;
+mod extents;
+mod link_table;
+mod object_table;
+mod store;
+mod store_changes;
+mod store_looks;
+mod store_world;
+mod text_map;
+
+pub use store::Store;
+
+/// The association and the stamp of a link.
+type LinkKey = (class_model::AssocNo, u32);
+
+/// An association and a pair that it links.
+type PairKey = (class_model::AssocNo, (ocl_values::ObjNo, ocl_values::ObjNo));
+
+/// An association, an object at one end of it, and a stamp.
+type EndKey = ((class_model::AssocNo, ocl_values::ObjNo), u32);
+
+#[cfg(test)]
+mod tests;

@@ -1,0 +1,234 @@
+ghost use Rattle.std.specs.Prelude.{◌≡◌, ◌<◌, ◌-◌, ◌^◌, [], IfOk, OnOk, OnErr, None, Some, length, map};
+ghost use Rattle.std.specs.BTreeMap.{insert_entry, is_at};
+ghost use Rattle.std.specs.BTreeMap.Range.{entries_between};
+ghost use Rattle.std.specs.Map.{lookup, remove_entry};
+ghost use Rattle.ocl_values.specs.declared.value.Value.TheVariants.{Obj};
+ghost use Rattle.object_state.specs.State.{link_cmp};
+ghost use Rattle.std.specs.declared.ops.Bound.TheVariants.{Included};
+ghost use Rattle.object_store.specs.Indexes.{end_cmp, joined_in, pair_cmp, pairs_in, stamp_in};
+
+use crate::entries::{put, take};
+use crate::{EndKey, LinkKey, PairKey};
+use class_model::{AssocNo, End};
+use object_state::LinkChange;
+use ocl_values::{ObjNo, Value};
+use std::alloc::{AllocError, Global};
+use std::collections::BTreeMap;
+use std::marker::Model;
+use use_lists::Items;
+
+/// Links by association and stamp. Contracts see the list of them in that order.
+#[derive(Drop)]
+pub(crate) struct LinkTable {
+    links: BTreeMap<LinkKey, (ObjNo, ObjNo)>,
+    /// The stamp of each linked pair.
+    stamps: BTreeMap<PairKey, u32>,
+    /// The second object of each link, by the first one.
+    seconds: BTreeMap<EndKey, ObjNo>,
+    /// The first object of each link, by the second one.
+    firsts: BTreeMap<EndKey, ObjNo>,
+}
+
+impl Model for LinkTable {
+    ghost use Rattle.std.specs.Prelude.{List, ℕ};
+    ghost use Rattle.object_store.specs.Indexes.{LinksAreTied};
+
+    ghost Value = { List ((ℕ × ℕ) × (ℕ × ℕ)) };
+
+    ghost view = { λ t. t.links.entries };
+
+    ghost invariant = { λ t. LinksAreTied t.links.entries t.stamps.entries t.seconds.entries t.firsts.entries };
+}
+
+/// A link by its pair.
+fn pair_key(link: &LinkChange) -> PairKey
+    ensures { result ≡ (link.now.assoc, (link.now.first, link.now.second)) }
+{
+    (link.assoc, (link.first, link.second))
+}
+
+/// A link by its first object.
+fn first_key(link: &LinkChange) -> EndKey
+    ensures { result ≡ ((link.now.assoc, link.now.first), link.now.stamp) }
+{
+    ((link.assoc, link.first), link.stamp)
+}
+
+/// A link by its second object.
+fn second_key(link: &LinkChange) -> EndKey
+    ensures { result ≡ ((link.now.assoc, link.now.second), link.now.stamp) }
+{
+    ((link.assoc, link.second), link.stamp)
+}
+
+/// Puts both ends of a link into their indexes, or neither.
+fn put_ends(
+    seconds: &mut BTreeMap<EndKey, ObjNo>,
+    firsts: &mut BTreeMap<EndKey, ObjNo>,
+    link: &LinkChange,
+) -> Result<(), AllocError>
+    requires { lookup (is_at (end_cmp ((link.now.assoc, link.now.first), link.now.stamp))) seconds.old.entries ≡ None }
+    ensures seconds { OnOk result (seconds.new.entries ≡ insert_entry end_cmp seconds.old.entries
+        ((link.now.assoc, link.now.first), link.now.stamp) link.now.second) }
+    ensures firsts { OnOk result (firsts.new.entries ≡ insert_entry end_cmp firsts.old.entries
+        ((link.now.assoc, link.now.second), link.now.stamp) link.now.first) }
+    ensures no_seconds { OnErr result (seconds.new.entries ≡ seconds.old.entries) }
+    ensures no_firsts { OnErr result (firsts.new.entries ≡ firsts.old.entries) }
+{
+    put(seconds, first_key(link), link.second)?;
+    match put(firsts, second_key(link), link.first) {
+        Ok(()) => Ok(()),
+        Err(refused) => {
+            take(seconds, first_key(link));
+            Err(refused)
+        }
+    }
+}
+
+/// Puts a link into all indexes, or into none.
+fn put_indexes(
+    stamps: &mut BTreeMap<PairKey, u32>,
+    seconds: &mut BTreeMap<EndKey, ObjNo>,
+    firsts: &mut BTreeMap<EndKey, ObjNo>,
+    link: &LinkChange,
+) -> Result<(), AllocError>
+    requires pair { lookup (is_at (pair_cmp (link.now.assoc, (link.now.first, link.now.second)))) stamps.old.entries ≡ None }
+    requires end { lookup (is_at (end_cmp ((link.now.assoc, link.now.first), link.now.stamp))) seconds.old.entries ≡ None }
+    ensures stamps { OnOk result (stamps.new.entries ≡ insert_entry pair_cmp stamps.old.entries (
+      link.now.assoc,
+      (link.now.first, link.now.second),
+    ) link.now.stamp) }
+    ensures seconds { OnOk result (seconds.new.entries ≡ insert_entry end_cmp seconds.old.entries
+        ((link.now.assoc, link.now.first), link.now.stamp) link.now.second) }
+    ensures firsts { OnOk result (firsts.new.entries ≡ insert_entry end_cmp firsts.old.entries
+        ((link.now.assoc, link.now.second), link.now.stamp) link.now.first) }
+    ensures small { OnOk result (link.now.stamp < 2 ^ 32) }
+    ensures no_stamps { OnErr result (stamps.new.entries ≡ stamps.old.entries) }
+    ensures no_seconds { OnErr result (seconds.new.entries ≡ seconds.old.entries) }
+    ensures no_firsts { OnErr result (firsts.new.entries ≡ firsts.old.entries) }
+{
+    put(stamps, pair_key(link), link.stamp)?;
+    match put_ends(seconds, firsts, link) {
+        Ok(()) => Ok(()),
+        Err(refused) => {
+            take(stamps, pair_key(link));
+            Err(refused)
+        }
+    }
+}
+
+/// The objects that an index of ends has at an association and an object, by stamps.
+fn objects_at(
+    alloc: Global,
+    index: &BTreeMap<EndKey, ObjNo>,
+    assoc: AssocNo,
+    object: ObjNo,
+) -> Result<Vec<Value>, AllocError>
+    ensures { IfOk result (λ v. v.items ≡ map (λ e. Obj e.1) (entries_between end_cmp (Included ((assoc, object), 0)) (Included ((assoc, object), 2 ^ 32 - 1))
+        index.now.entries)) }
+{
+    index
+        .range(((assoc, object), 0)..=((assoc, object), u32::MAX))
+        .map(|(_, found)| Value::Obj(*found))
+        .collect(alloc)
+}
+
+/// The pairs of the links of an association, by stamps.
+fn pairs_of(
+    alloc: Global,
+    links: &BTreeMap<LinkKey, (ObjNo, ObjNo)>,
+    assoc: AssocNo,
+) -> Result<Vec<(ObjNo, ObjNo)>, AllocError>
+    ensures { IfOk result (λ v. v.items ≡ map (λ e. e.1) (entries_between link_cmp (Included (assoc, 0)) (Included (assoc, 2 ^ 32 - 1)) links.now.entries)) }
+{
+    links
+        .range((assoc, 0)..=(assoc, u32::MAX))
+        .map(|(_, pair)| *pair)
+        .collect(alloc)
+}
+
+impl LinkTable {
+    pub(crate) fn new(alloc: Global) -> LinkTable
+        ensures { result ≡ [] }
+    {
+        LinkTable {
+            links: BTreeMap::new(alloc),
+            stamps: BTreeMap::new(alloc),
+            seconds: BTreeMap::new(alloc),
+            firsts: BTreeMap::new(alloc),
+        }
+    }
+
+    pub(crate) fn len(&self) -> usize
+        ensures { result ≡ length self.now }
+    {
+        self.links.len()
+    }
+
+    /// The stamp of a pair that an association links.
+    pub(crate) fn stamp(&self, assoc: AssocNo, first: ObjNo, second: ObjNo) -> Option<u32>
+        ensures { result ≡ stamp_in self.now assoc first second }
+    {
+        self.stamps.get(&(assoc, (first, second))).copied()
+    }
+
+    /// The objects at an end of an object, by stamps.
+    pub(crate) fn joined(
+        &self,
+        alloc: Global,
+        assoc: AssocNo,
+        end: End,
+        object: ObjNo,
+    ) -> Result<Vec<Value>, AllocError>
+        ensures { IfOk result (λ v. v.items ≡ map Obj (joined_in self.now assoc end object)) }
+    {
+        match end {
+            End::First => objects_at(alloc, &self.firsts, assoc, object),
+            End::Second => objects_at(alloc, &self.seconds, assoc, object),
+        }
+    }
+
+    /// The pairs that an association links, by stamps.
+    pub(crate) fn pairs(
+        &self,
+        alloc: Global,
+        assoc: AssocNo,
+    ) -> Result<Vec<(ObjNo, ObjNo)>, AllocError>
+        ensures { IfOk result (λ v. v.items ≡ pairs_in self.now assoc) }
+    {
+        pairs_of(alloc, &self.links, assoc)
+    }
+
+    /// Puts a link in, whose key is free and whose pair is not linked. After `AllocError` the links
+    /// are as they were.
+    pub(crate) fn insert(&mut self, link: &LinkChange) -> Result<(), AllocError>
+        requires free { lookup (is_at (link_cmp (link.now.assoc, link.now.stamp))) self.old ≡ None }
+        requires fresh { stamp_in self.old link.now.assoc link.now.first link.now.second ≡ None }
+        ensures ok { OnOk result (self.new ≡ insert_entry link_cmp self.old (link.now.assoc, link.now.stamp) (link.now.first, link.now.second)) }
+        ensures err { OnErr result (self.new ≡ self.old) }
+    {
+        put(
+            &mut self.links,
+            (link.assoc, link.stamp),
+            (link.first, link.second),
+        )?;
+        match put_indexes(&mut self.stamps, &mut self.seconds, &mut self.firsts, link) {
+            Ok(()) => Ok(()),
+            Err(refused) => {
+                take(&mut self.links, (link.assoc, link.stamp));
+                Err(refused)
+            }
+        }
+    }
+
+    /// Takes a link out.
+    pub(crate) fn remove(&mut self, link: &LinkChange)
+        requires { lookup (is_at (link_cmp (link.now.assoc, link.now.stamp))) self.old ≡ Some (link.now.first, link.now.second) }
+        ensures { self.new ≡ remove_entry (is_at (link_cmp (link.now.assoc, link.now.stamp))) self.old }
+    {
+        take(&mut self.links, (link.assoc, link.stamp));
+        take(&mut self.stamps, pair_key(link));
+        take(&mut self.seconds, first_key(link));
+        take(&mut self.firsts, second_key(link));
+    }
+}

@@ -1,0 +1,192 @@
+ghost use Rattle.std.specs.Prelude.{◌≡◌, ◌<◌, ◌^◌, ℕ, [], true, false, IfOk, OnOk, OnErr, None, Some, length, map, nat_eq};
+ghost use Rattle.std.specs.BTreeMap.{insert_entry, is_at};
+ghost use Rattle.std.specs.List.{list_any};
+ghost use Rattle.std.specs.List.Sorted.{IsStrictlySortedBy};
+ghost use Rattle.std.specs.Map.{keys_of, lookup, remove_entry, set_value};
+ghost use Rattle.std.specs.Option.{option_copied, option_map_or};
+ghost use Rattle.std.specs.Ordering.{nat_cmp};
+ghost use Rattle.ocl_values.specs.declared.value.Value.TheVariants.{Obj};
+ghost use Rattle.object_state.specs.Changes.{object_of, with_slot};
+ghost use Rattle.object_state.specs.Layouts.{ancestors};
+ghost use Rattle.object_state.specs.State.{link_cmp, text_cmp};
+ghost use Rattle.object_store.specs.Indexes.{extent_in, has_pair, is_one, named_in, object_in};
+
+use crate::entries::{put, take};
+use crate::extents::{Extents, objects_of, put_extents, take_extents};
+use crate::text_map::TextMap;
+use class_model::{AttrNo, ClassNo};
+use object_state::{Layout, Object, ObjectChange, object_of, set_slot};
+use ocl_values::{ObjNo, Value};
+use std::alloc::{AllocError, Global};
+use std::collections::{BTreeMap, BTreeSet};
+use std::marker::Model;
+
+/// Objects by number. Contracts see the list of them in that order, and the layout.
+#[derive(Drop)]
+pub(crate) struct ObjectTable {
+    layout: Layout,
+    objects: BTreeMap<ObjNo, Object>,
+    /// The objects of names.
+    names: TextMap<ObjNo>,
+    extents: Extents,
+}
+
+impl Model for ObjectTable {
+    ghost use Rattle.std.specs.Coded.{codes};
+    ghost use Rattle.ocl_values.specs.contracts.value.Value as values;
+    ghost use Rattle.object_store.specs.Indexes.{Objects, ObjectsAreTied};
+
+    ghost Value = { Objects };
+
+    ghost coded = { Prim.hlevel (codes, values.the_row.coded) };
+
+    ghost view = { λ t. record { layout = t.layout; objects = t.objects.entries } };
+
+    ghost invariant = { λ t. ObjectsAreTied t.layout t.objects.entries t.names t.extents.keys };
+}
+
+/// Stores a value in the object of a number, where it is live and has the attribute.
+fn set_slot_of(
+    alloc: Global,
+    layout: &Layout,
+    objects: &mut BTreeMap<ObjNo, Object>,
+    number: ObjNo,
+    attr: AttrNo,
+    value: Value,
+)
+    ensures { objects.new.entries ≡ option_map_or (λ x. set_value (is_at (nat_cmp number)) objects.old.entries (with_slot layout.now x attr value)) (object_in
+        objects.old.entries number) objects.old.entries }
+{
+    if let Some(object) = objects.get_mut(&number) {
+        set_slot(alloc, layout, object, attr, value);
+    }
+}
+
+/// Puts an object into the indexes, or into none.
+fn put_indexes(
+    alloc: Global,
+    layout: &Layout,
+    names: &mut TextMap<ObjNo>,
+    extents: &mut Extents,
+    new: &ObjectChange,
+) -> Result<(), AllocError>
+    requires ordered { IsStrictlySortedBy link_cmp extents.old.keys }
+    requires fresh { lookup (is_at (text_cmp new.now.name)) names.old ≡ None }
+    requires free { (c : ℕ) → has_pair extents.old.keys c new.now.object ≡ false }
+    ensures ordered { IsStrictlySortedBy link_cmp extents.new.keys }
+    ensures others { (c o : ℕ) → is_one (ancestors layout.now new.now.class) new.now.object c o ≡ false
+        → has_pair extents.new.keys c o ≡ has_pair extents.old.keys c o }
+    ensures small { OnOk result (new.now.object < 2 ^ 32) }
+    ensures named { OnOk result (names.new ≡ insert_entry text_cmp names.old new.now.name new.now.object) }
+    ensures there { OnOk result ((c : ℕ) → list_any (nat_eq c) (ancestors layout.now new.now.class) ≡ true
+        → has_pair extents.new.keys c new.now.object ≡ true) }
+    ensures no_name { OnErr result (names.new ≡ names.old) }
+    ensures gone { OnErr result ((c : ℕ) → list_any (nat_eq c) (ancestors layout.now new.now.class) ≡ true
+        → has_pair extents.new.keys c new.now.object ≡ false) }
+{
+    names.insert(alloc, new.name.as_str(), new.object)?;
+    match put_extents(extents, layout.ancestors(new.class), new.object) {
+        Ok(()) => Ok(()),
+        Err(refused) => {
+            names.remove(new.name.as_str());
+            Err(refused)
+        }
+    }
+}
+
+impl ObjectTable {
+    pub(crate) fn new(alloc: Global, layout: Layout) -> ObjectTable
+        ensures layout { result.layout ≡ layout }
+        ensures objects { result.objects ≡ [] }
+    {
+        ObjectTable {
+            layout,
+            objects: BTreeMap::new(alloc),
+            names: TextMap::new(alloc),
+            extents: BTreeSet::new(alloc),
+        }
+    }
+
+    pub(crate) fn layout(&self) -> &Layout
+        ensures { result.now ≡ self.now.layout }
+    {
+        &self.layout
+    }
+
+    pub(crate) fn len(&self) -> usize
+        ensures { result ≡ length self.now.objects }
+    {
+        self.objects.len()
+    }
+
+    /// The object of a number.
+    pub(crate) fn get(&self, number: ObjNo) -> Option<&Object>
+        ensures { option_copied result ≡ object_in self.now.objects number }
+    {
+        self.objects.get(&number)
+    }
+
+    /// The number of the object of a name.
+    pub(crate) fn named(&self, name: &str) -> Option<ObjNo>
+        ensures { result ≡ named_in self.now.objects name.now }
+    {
+        self.names.get(name).copied()
+    }
+
+    /// The numbers of all objects, in their order.
+    pub(crate) fn numbers(&self, alloc: Global) -> Result<Vec<ObjNo>, AllocError>
+        ensures { IfOk result (λ v. v.items ≡ keys_of self.now.objects) }
+    {
+        self.objects.keys().copied().collect(alloc)
+    }
+
+    /// The objects of a class and its descendants, by number.
+    pub(crate) fn of_class(&self, alloc: Global, class: ClassNo) -> Result<Vec<Value>, AllocError>
+        ensures { IfOk result (λ v. v.items ≡ map Obj (extent_in self.now.layout self.now.objects class)) }
+    {
+        objects_of(alloc, &self.extents, class)
+    }
+
+    /// Puts the object of a change in, whose number and name are free. After `AllocError` the
+    /// objects are as they were.
+    pub(crate) fn insert(&mut self, alloc: Global, new: &ObjectChange) -> Result<(), AllocError>
+        requires free { object_in self.old.objects new.now.object ≡ None }
+        requires fresh { named_in self.old.objects new.now.name ≡ None }
+        ensures ok { OnOk result (self.new ≡ record self.old { objects = insert_entry nat_cmp self.old.objects new.now.object (object_of new.now) }) }
+        ensures err { OnErr result (self.new ≡ self.old) }
+    {
+        let object = object_of(alloc, new)?;
+        put(&mut self.objects, new.object, object)?;
+        match put_indexes(alloc, &self.layout, &mut self.names, &mut self.extents, new) {
+            Ok(()) => Ok(()),
+            Err(refused) => {
+                take(&mut self.objects, new.object);
+                Err(refused)
+            }
+        }
+    }
+
+    /// Takes the object of a change out.
+    pub(crate) fn remove(&mut self, old: &ObjectChange)
+        requires { object_in self.old.objects old.now.object ≡ Some (object_of old.now) }
+        ensures { self.new ≡ record self.old { objects = remove_entry (is_at (nat_cmp old.now.object)) self.old.objects } }
+    {
+        take(&mut self.objects, old.object);
+        self.names.remove(old.name.as_str());
+        take_extents(
+            &mut self.extents,
+            self.layout.ancestors(old.class),
+            old.object,
+        );
+    }
+
+    /// Stores a value in the object of a number, where it is live and has the attribute.
+    pub(crate) fn set_slot(&mut self, alloc: Global, number: ObjNo, attr: AttrNo, value: Value)
+        ensures { self.new ≡ record self.old {
+          objects = option_map_or (λ x. set_value (is_at (nat_cmp number)) self.old.objects (with_slot self.old.layout x attr value))
+              (object_in self.old.objects number) self.old.objects;
+        } }
+    {
+        set_slot_of(alloc, &self.layout, &mut self.objects, number, attr, value);
+    }
+}

@@ -1,0 +1,18 @@
+use Rattle.std.proofs.Common.{◌≡◌, ◌+◌, ◌∷◌, [], All, length, map}
+use Rattle.ocl_values.specs.Shape.{IsWellMade}
+use Rattle.ocl_eval.specs.Nodes.{parts}
+use Rattle.ocl_eval.specs.Parts.{ev_in}
+use Rattle.ocl_eval.specs.Trees.{IsSound, IsSoundPart}
+use Rattle.ocl_eval.proofs.node.Node.parts.Given as goal
+
+abbrev pub invariant-parts : goal.invariant-parts
+invariant-parts g l = record {
+  same : parts (ev_in g.V.States.now g.V.States.pre l.self.setting) l.fn.locals l.fn.before l.fn.all l.fn.meter
+      ≡ parts (ev_in g.V.States.now g.V.States.pre l.self.setting) l.locals l.made l.rest l.meter;
+  locals : l.locals ≡ l.fn.locals;
+  ticks : g.V.States.count l.steps + l.meter.fuel ≡ g.V.States.count l.fn.steps + l.fn.meter.fuel;
+  trees : All IsSoundPart l.rest;
+}
+
+abbrev pub decreases-parts : goal.decreases-parts
+decreases-parts g l = length l.rest

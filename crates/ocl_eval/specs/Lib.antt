@@ -1,0 +1,7 @@
+pub mod Evaluations
+pub mod Scenes
+pub mod Trees
+pub mod Nodes
+pub mod Walks
+pub mod Evaluation
+pub mod Parts

@@ -1,0 +1,113 @@
+ghost use Rattle.std.specs.Prelude.{◌≡◌, ◌+◌, IfOk, OnOk};
+ghost use Rattle.std.specs.Option.{option_copied};
+ghost use Rattle.ocl_values.specs.Shape.{IsWellMade};
+ghost use Rattle.ocl_eval.specs.Parts.{Evaluates, ev_at, scene};
+ghost use Rattle.ocl_eval.specs.Evaluations.{Gives};
+ghost use Rattle.ocl_eval.specs.Nodes.{node};
+ghost use Rattle.ocl_eval.specs.Trees.{IsSound, IsSoundProgram};
+
+use crate::costs::pay;
+use crate::node::Node;
+use crate::objects::{instances, linked_with, new_object, slot_of, test_value};
+use crate::{Meter, Setting, States, Stop, Values};
+use ocl_core::Expr;
+use ocl_values::Value;
+use use_lists::Boxed;
+
+/// The start of an iterator.
+fn start_of(start: &Option<Boxed<Expr>>) -> Option<&Expr>
+    ensures { option_copied result ≡ start.now }
+{
+    match start {
+        Some(e) => Some(e.get()),
+        None => None,
+    }
+}
+
+/// Every node.
+impl<S, V: States<S>, F> Node<'_, S, V, F>
+where
+    F: Fn(&Setting<'_, V>, &Expr, &mut Values, &mut Meter, &mut S) -> Result<Value, Stop>,
+{
+    /// The value of a node.
+    #[tactic(auto, unfolding(crate::specs::Nodes::node))]
+    pub(crate) fn node(
+        &self,
+        e: &Expr,
+        locals: &mut Values,
+        meter: &mut Meter,
+        steps: &mut S,
+    ) -> Result<Value, Stop>
+        requires parts { Evaluates V.now V.pre V.count self.now.setting.levels (F.pre self.now.value) (F.post self.now.value) }
+        requires program { IsSoundProgram self.now.setting.program.now }
+        requires tree { IsSound e.now }
+        ensures value { Gives (node (scene V.now V.pre self.now.setting)
+            (ev_at V.now V.pre self.now.setting) self.now.setting.at locals.old e.now meter.old) result meter.new }
+        ensures well_made { IfOk result IsWellMade }
+        ensures locals { OnOk result (locals.new ≡ locals.old) }
+        ensures ticks { V.count steps.new + meter.new.fuel ≡ V.count steps.old + meter.old.fuel }
+    {
+        let alloc = self.setting.alloc;
+        let states = self.setting.states;
+        match e {
+            Expr::Literal(value) => pay(states, value.try_copy(alloc)?, meter, steps),
+            Expr::Local(number) => pay(states, locals.copy_of(alloc, *number)?, meter, steps),
+            Expr::Unary(op, a) => self.unary(*op, a.get(), locals, meter, steps),
+            Expr::Binary(op, a, b) => self.binary(*op, a.get(), b.get(), locals, meter, steps),
+            Expr::If(c, a, b) => self.choice(c.get(), a.get(), b.get(), locals, meter, steps),
+            Expr::Let(a, b) => self.bind(a.get(), b.get(), locals, meter, steps),
+            Expr::Make(kind, all) => self.make(*kind, all.as_slice(), locals, meter, steps),
+            Expr::Plain(op, all) => self.plain(*op, all.as_slice(), locals, meter, steps),
+            Expr::Coll(op, all) => self.collection(*op, all.as_slice(), locals, meter, steps),
+            Expr::Iter(op, source, count, start, body) => {
+                let start = start_of(start);
+                self.iterator(
+                    *op,
+                    source.get(),
+                    *count,
+                    start,
+                    body.get(),
+                    locals,
+                    meter,
+                    steps,
+                )
+            }
+            Expr::Attr(a, number, when) => {
+                let x = self.part(a.get(), locals, meter, steps)?;
+                let value = slot_of(&self.setting, *number, *when, &x, meter, steps)?;
+                pay(states, value, meter, steps)
+            }
+            Expr::Derived(a, number, when) => {
+                let x = self.part(a.get(), locals, meter, steps)?;
+                let value = self.derived_of(*number, *when, &x, meter, steps)?;
+                pay(states, value, meter, steps)
+            }
+            Expr::Nav(a, assoc, end, when) => {
+                let x = self.part(a.get(), locals, meter, steps)?;
+                let value = linked_with(&self.setting, *assoc, *end, *when, &x, meter, steps)?;
+                pay(states, value, meter, steps)
+            }
+            Expr::Extent(class, when) => {
+                let value = instances(&self.setting, *class, *when, meter, steps)?;
+                pay(states, value, meter, steps)
+            }
+            Expr::Query(a, op, all) => {
+                let x = self.part(a.get(), locals, meter, steps)?;
+                let xs = self.values(Values::new(alloc), all.as_slice(), locals, meter, steps)?;
+                let value = self.query_of(*op, xs, &x, meter, steps)?;
+                pay(states, value, meter, steps)
+            }
+            Expr::Test(test, a, asked, when) => {
+                let x = self.part(a.get(), locals, meter, steps)?;
+                let value = test_value(&self.setting, *test, asked, *when, x, meter, steps)?;
+                pay(states, value, meter, steps)
+            }
+            Expr::IsNew(a) => {
+                let x = self.part(a.get(), locals, meter, steps)?;
+                let value = new_object(&self.setting, &x, meter, steps)?;
+                pay(states, value, meter, steps)
+            }
+            Expr::ToSet(a) => self.to_set(a.get(), locals, meter, steps),
+        }
+    }
+}

@@ -1,0 +1,32 @@
+//! The evaluator of expressions over two states, with its budget and the cells that it reads.
+#![tactic(auto)]
+
+mod calls;
+mod costs;
+mod env;
+mod evaluation;
+mod evaluator;
+mod iteration;
+mod layers;
+mod looks;
+mod making;
+mod meter;
+mod node;
+mod objects;
+mod outcome;
+mod parts;
+mod programs;
+mod setting;
+mod states;
+mod stop;
+mod values;
+mod walks;
+
+pub use env::Env;
+pub use evaluation::evaluate;
+use meter::Meter;
+pub use outcome::Outcome;
+use setting::Setting;
+use states::States;
+use stop::Stop;
+use values::Values;

@@ -1,0 +1,322 @@
+ghost use Rattle.std.specs.Prelude.{◌≡◌, ◌+◌, All, IfOk, MatchOption, OnOk, ⊤};
+ghost use Rattle.ocl_values.specs.Shape.{IsWellMade};
+ghost use Rattle.ocl_eval.specs.Parts.{Evaluates, ev_in};
+ghost use Rattle.ocl_eval.specs.Evaluations.{Gives};
+ghost use Rattle.ocl_eval.specs.Nodes.{bind, binary, branch, choice, collection, paid, plain, right, to_set, unary, values};
+ghost use Rattle.ocl_eval.specs.Trees.{IsSound, IsSoundProgram};
+
+use crate::costs::pay;
+use crate::{Meter, Setting, States, Stop, Values};
+use ocl_collections::apply_owned;
+use ocl_core::{BinaryOp, CollOp, Expr, PlainOp, UnaryOp};
+use ocl_operations::{as_source, binary, decided, plain, unary};
+use ocl_values::Value;
+use std::marker::PhantomData;
+
+/// A node, by what evaluates its parts.
+#[derive(Drop)]
+pub(crate) struct Node<'a, S, V, F> {
+    pub(crate) setting: Setting<'a, V>,
+    pub(crate) value: F,
+    pub(crate) steps: PhantomData<S>,
+}
+
+impl<S, V: States<S>, F> Node<'_, S, V, F>
+where
+    F: Fn(&Setting<'_, V>, &Expr, &mut Values, &mut Meter, &mut S) -> Result<Value, Stop>,
+{
+    /// The value of a part.
+    pub(crate) fn part(
+        &self,
+        e: &Expr,
+        locals: &mut Values,
+        meter: &mut Meter,
+        steps: &mut S,
+    ) -> Result<Value, Stop>
+        requires parts { Evaluates V.now V.pre V.count self.now.setting.levels (F.pre self.now.value) (F.post self.now.value) }
+        requires program { IsSoundProgram self.now.setting.program.now }
+        requires tree { IsSound e.now }
+        ensures value { Gives ((ev_in V.now V.pre self.now.setting) locals.old e.now meter.old) result meter.new }
+        ensures well_made { IfOk result IsWellMade }
+        ensures locals { OnOk result (locals.new ≡ locals.old) }
+        ensures ticks { V.count steps.new + meter.new.fuel ≡ V.count steps.old + meter.old.fuel }
+    {
+        (self.value)(&self.setting, e, locals, meter, steps)
+    }
+
+    #[tactic(auto, unfolding(crate::specs::Nodes::unary))]
+    pub(crate) fn unary(
+        &self,
+        op: UnaryOp,
+        a: &Expr,
+        locals: &mut Values,
+        meter: &mut Meter,
+        steps: &mut S,
+    ) -> Result<Value, Stop>
+        requires parts { Evaluates V.now V.pre V.count self.now.setting.levels (F.pre self.now.value) (F.post self.now.value) }
+        requires program { IsSoundProgram self.now.setting.program.now }
+        requires tree { IsSound a.now }
+        ensures value { Gives (unary (ev_in V.now V.pre self.now.setting) locals.old op a.now meter.old) result meter.new }
+        ensures well_made { IfOk result IsWellMade }
+        ensures locals { OnOk result (locals.new ≡ locals.old) }
+        ensures ticks { V.count steps.new + meter.new.fuel ≡ V.count steps.old + meter.old.fuel }
+    {
+        let x = self.part(a, locals, meter, steps)?;
+        pay(self.setting.states, unary(op, &x), meter, steps)
+    }
+
+    /// What the left operand decides, or else what both give.
+    fn right(
+        &self,
+        op: BinaryOp,
+        x: Value,
+        b: &Expr,
+        known: Option<Value>,
+        locals: &mut Values,
+        meter: &mut Meter,
+        steps: &mut S,
+    ) -> Result<Value, Stop>
+        requires parts { Evaluates V.now V.pre V.count self.now.setting.levels (F.pre self.now.value) (F.post self.now.value) }
+        requires program { IsSoundProgram self.now.setting.program.now }
+        requires tree { IsSound b.now }
+        requires well { IsWellMade x }
+        requires known { MatchOption known ⊤ IsWellMade }
+        ensures value { Gives (right (ev_in V.now V.pre self.now.setting) locals.old op x b.now known meter.old) result meter.new }
+        ensures well_made { IfOk result IsWellMade }
+        ensures locals { OnOk result (locals.new ≡ locals.old) }
+        ensures ticks { V.count steps.new + meter.new.fuel ≡ V.count steps.old + meter.old.fuel }
+    {
+        match known {
+            Some(value) => pay(self.setting.states, value, meter, steps),
+            None => {
+                let y = self.part(b, locals, meter, steps)?;
+                let value = binary(self.setting.alloc, op, x, y)?;
+                pay(self.setting.states, value, meter, steps)
+            }
+        }
+    }
+
+    #[tactic(auto, unfolding(crate::specs::Nodes::binary))]
+    pub(crate) fn binary(
+        &self,
+        op: BinaryOp,
+        a: &Expr,
+        b: &Expr,
+        locals: &mut Values,
+        meter: &mut Meter,
+        steps: &mut S,
+    ) -> Result<Value, Stop>
+        requires parts { Evaluates V.now V.pre V.count self.now.setting.levels (F.pre self.now.value) (F.post self.now.value) }
+        requires program { IsSoundProgram self.now.setting.program.now }
+        requires first { IsSound a.now }
+        requires second { IsSound b.now }
+        ensures value { Gives (binary (ev_in V.now V.pre self.now.setting) locals.old op a.now b.now meter.old) result meter.new }
+        ensures well_made { IfOk result IsWellMade }
+        ensures locals { OnOk result (locals.new ≡ locals.old) }
+        ensures ticks { V.count steps.new + meter.new.fuel ≡ V.count steps.old + meter.old.fuel }
+    {
+        let x = self.part(a, locals, meter, steps)?;
+        let known = decided(op, &x);
+        self.right(op, x, b, known, locals, meter, steps)
+    }
+
+    /// The value of a branch.
+    fn branch(
+        &self,
+        x: Value,
+        a: &Expr,
+        b: &Expr,
+        locals: &mut Values,
+        meter: &mut Meter,
+        steps: &mut S,
+    ) -> Result<Value, Stop>
+        requires parts { Evaluates V.now V.pre V.count self.now.setting.levels (F.pre self.now.value) (F.post self.now.value) }
+        requires program { IsSoundProgram self.now.setting.program.now }
+        requires first { IsSound a.now }
+        requires second { IsSound b.now }
+        ensures value { Gives (branch (ev_in V.now V.pre self.now.setting) locals.old x a.now b.now meter.old) result meter.new }
+        ensures well_made { IfOk result IsWellMade }
+        ensures locals { OnOk result (locals.new ≡ locals.old) }
+        ensures ticks { V.count steps.new + meter.new.fuel ≡ V.count steps.old + meter.old.fuel }
+    {
+        match x {
+            Value::Bool(true) => self.paid(a, locals, meter, steps),
+            Value::Bool(false) => self.paid(b, locals, meter, steps),
+            _ => pay(self.setting.states, Value::Invalid, meter, steps),
+        }
+    }
+
+    /// A part whose value is that of the node.
+    fn paid(
+        &self,
+        a: &Expr,
+        locals: &mut Values,
+        meter: &mut Meter,
+        steps: &mut S,
+    ) -> Result<Value, Stop>
+        requires parts { Evaluates V.now V.pre V.count self.now.setting.levels (F.pre self.now.value) (F.post self.now.value) }
+        requires program { IsSoundProgram self.now.setting.program.now }
+        requires tree { IsSound a.now }
+        ensures value { Gives (paid (ev_in V.now V.pre self.now.setting) locals.old a.now meter.old) result meter.new }
+        ensures well_made { IfOk result IsWellMade }
+        ensures locals { OnOk result (locals.new ≡ locals.old) }
+        ensures ticks { V.count steps.new + meter.new.fuel ≡ V.count steps.old + meter.old.fuel }
+    {
+        let x = self.part(a, locals, meter, steps)?;
+        pay(self.setting.states, x, meter, steps)
+    }
+
+    #[tactic(auto, unfolding(crate::specs::Nodes::choice))]
+    pub(crate) fn choice(
+        &self,
+        c: &Expr,
+        a: &Expr,
+        b: &Expr,
+        locals: &mut Values,
+        meter: &mut Meter,
+        steps: &mut S,
+    ) -> Result<Value, Stop>
+        requires parts { Evaluates V.now V.pre V.count self.now.setting.levels (F.pre self.now.value) (F.post self.now.value) }
+        requires program { IsSoundProgram self.now.setting.program.now }
+        requires test { IsSound c.now }
+        requires first { IsSound a.now }
+        requires second { IsSound b.now }
+        ensures value { Gives (choice (ev_in V.now V.pre self.now.setting) locals.old c.now a.now b.now meter.old) result meter.new }
+        ensures well_made { IfOk result IsWellMade }
+        ensures locals { OnOk result (locals.new ≡ locals.old) }
+        ensures ticks { V.count steps.new + meter.new.fuel ≡ V.count steps.old + meter.old.fuel }
+    {
+        let x = self.part(c, locals, meter, steps)?;
+        self.branch(x, a, b, locals, meter, steps)
+    }
+
+    #[tactic(auto, unfolding(crate::specs::Nodes::bind))]
+    pub(crate) fn bind(
+        &self,
+        a: &Expr,
+        b: &Expr,
+        locals: &mut Values,
+        meter: &mut Meter,
+        steps: &mut S,
+    ) -> Result<Value, Stop>
+        requires parts { Evaluates V.now V.pre V.count self.now.setting.levels (F.pre self.now.value) (F.post self.now.value) }
+        requires program { IsSoundProgram self.now.setting.program.now }
+        requires first { IsSound a.now }
+        requires second { IsSound b.now }
+        ensures value { Gives (bind (ev_in V.now V.pre self.now.setting) locals.old a.now b.now meter.old) result meter.new }
+        ensures well_made { IfOk result IsWellMade }
+        ensures locals { OnOk result (locals.new ≡ locals.old) }
+        ensures ticks { V.count steps.new + meter.new.fuel ≡ V.count steps.old + meter.old.fuel }
+    {
+        let x = self.part(a, locals, meter, steps)?;
+        locals.push(x)?;
+        let y = self.paid(b, locals, meter, steps)?;
+        locals.pop();
+        Ok(y)
+    }
+
+    /// The values of several parts, after those that are there.
+    #[tactic(auto, unfolding(crate::specs::Nodes::values))]
+    pub(crate) fn values(
+        &self,
+        done: Values,
+        all: &[Expr],
+        locals: &mut Values,
+        meter: &mut Meter,
+        steps: &mut S,
+    ) -> Result<Values, Stop>
+        requires parts { Evaluates V.now V.pre V.count self.now.setting.levels (F.pre self.now.value) (F.post self.now.value) }
+        requires program { IsSoundProgram self.now.setting.program.now }
+        requires trees { All IsSound all.now }
+        ensures value { Gives (values (ev_in V.now V.pre self.now.setting) locals.old done all.now meter.old) result meter.new }
+        ensures locals { OnOk result (locals.new ≡ locals.old) }
+        ensures ticks { V.count steps.new + meter.new.fuel ≡ V.count steps.old + meter.old.fuel }
+    {
+        let mut done = done;
+        let mut rest = all;
+        'parts: while let [e, more @ ..] = rest {
+            let x = self.part(e, locals, meter, steps)?;
+            done.push(x)?;
+            rest = more;
+        }
+        Ok(done)
+    }
+
+    #[tactic(auto, unfolding(crate::specs::Nodes::plain))]
+    pub(crate) fn plain(
+        &self,
+        op: PlainOp,
+        all: &[Expr],
+        locals: &mut Values,
+        meter: &mut Meter,
+        steps: &mut S,
+    ) -> Result<Value, Stop>
+        requires parts { Evaluates V.now V.pre V.count self.now.setting.levels (F.pre self.now.value) (F.post self.now.value) }
+        requires program { IsSoundProgram self.now.setting.program.now }
+        requires trees { All IsSound all.now }
+        ensures value { Gives (plain (ev_in V.now V.pre self.now.setting) locals.old op all.now meter.old) result meter.new }
+        ensures well_made { IfOk result IsWellMade }
+        ensures locals { OnOk result (locals.new ≡ locals.old) }
+        ensures ticks { V.count steps.new + meter.new.fuel ≡ V.count steps.old + meter.old.fuel }
+    {
+        match all {
+            [] => pay(self.setting.states, Value::Invalid, meter, steps),
+            [a, args @ ..] => {
+                let x = self.part(a, locals, meter, steps)?;
+                let xs = self.values(Values::new(self.setting.alloc), args, locals, meter, steps)?;
+                let value = plain(self.setting.alloc, op, &x, xs.as_slice())?;
+                pay(self.setting.states, value, meter, steps)
+            }
+        }
+    }
+
+    #[tactic(auto, unfolding(crate::specs::Nodes::collection))]
+    pub(crate) fn collection(
+        &self,
+        op: CollOp,
+        all: &[Expr],
+        locals: &mut Values,
+        meter: &mut Meter,
+        steps: &mut S,
+    ) -> Result<Value, Stop>
+        requires parts { Evaluates V.now V.pre V.count self.now.setting.levels (F.pre self.now.value) (F.post self.now.value) }
+        requires program { IsSoundProgram self.now.setting.program.now }
+        requires trees { All IsSound all.now }
+        ensures value { Gives (collection (ev_in V.now V.pre self.now.setting) locals.old op all.now meter.old) result meter.new }
+        ensures well_made { IfOk result IsWellMade }
+        ensures locals { OnOk result (locals.new ≡ locals.old) }
+        ensures ticks { V.count steps.new + meter.new.fuel ≡ V.count steps.old + meter.old.fuel }
+    {
+        match all {
+            [] => pay(self.setting.states, Value::Invalid, meter, steps),
+            [a, args @ ..] => {
+                let x = self.part(a, locals, meter, steps)?;
+                let xs = self.values(Values::new(self.setting.alloc), args, locals, meter, steps)?;
+                let source = as_source(self.setting.alloc, x)?;
+                let value = apply_owned(self.setting.alloc, op, source, xs.as_slice())?;
+                pay(self.setting.states, value, meter, steps)
+            }
+        }
+    }
+
+    #[tactic(auto, unfolding(crate::specs::Nodes::to_set))]
+    pub(crate) fn to_set(
+        &self,
+        a: &Expr,
+        locals: &mut Values,
+        meter: &mut Meter,
+        steps: &mut S,
+    ) -> Result<Value, Stop>
+        requires parts { Evaluates V.now V.pre V.count self.now.setting.levels (F.pre self.now.value) (F.post self.now.value) }
+        requires program { IsSoundProgram self.now.setting.program.now }
+        requires tree { IsSound a.now }
+        ensures value { Gives (to_set (ev_in V.now V.pre self.now.setting) locals.old a.now meter.old) result meter.new }
+        ensures well_made { IfOk result IsWellMade }
+        ensures locals { OnOk result (locals.new ≡ locals.old) }
+        ensures ticks { V.count steps.new + meter.new.fuel ≡ V.count steps.old + meter.old.fuel }
+    {
+        let x = self.part(a, locals, meter, steps)?;
+        let value = as_source(self.setting.alloc, x)?;
+        pay(self.setting.states, value, meter, steps)
+    }
+}

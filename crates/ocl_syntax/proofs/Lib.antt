@@ -1,0 +1,3 @@
+mod Fuel
+mod Passing
+mod Rows
