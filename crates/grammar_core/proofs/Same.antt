@@ -17,7 +17,7 @@ use Rattle.grammar_core.proofs.Fits.{IsBelow, AllBelow, OtherBelow, NextFits, Ru
 abbrev pub height : Table → ℕ → ℕ → ℕ
 height g p level = (max_level - level) * (length g.prods + 1) + rank g p
 
-then_same : (a : Answer) (f f' : Reading) → ((to : ℕ) (more : List ParseTree) (n : ℕ) → f to more n ≡ f' to more n) → then_at a f ≡ then_at a f'
+pub then_same : (a : Answer) (f f' : Reading) → ((to : ℕ) (more : List ParseTree) (n : ℕ) → f to more n ≡ f' to more n) → then_at a f ≡ then_at a f'
 then_same (Answer.ends to done n) f f' h = h to done n
 then_same (Answer.stuck at n) f f' h = refl
 then_same (Answer.deep at n) f f' h = refl

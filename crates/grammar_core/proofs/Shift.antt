@@ -1,13 +1,14 @@
 -- A reading counts on from the steps before it.
-use Rattle.std.proofs.Common.{◌≡◌, ℕ, ◌+◌, ◌-◌, Bool, true, false, cond, nat_lt, List, [], ◌∷◌, length, Option, Some, None, slice_get, zero, suc, refl, ap, ◌∙◌}
+use Rattle.std.proofs.Common.{◌≡◌, ℕ, ◌+◌, ◌-◌, Bool, true, false, cond, nat_lt, List, [], ◌∷◌, length, Option, Some, None, slice_get, zero, suc, refl, ap, ◌∙◌, arith}
 use Rattle.grammar_core.specs.declared.table.Table.{Table}
 use Rattle.grammar_core.specs.declared.table.Rule.{Rule}
 use Rattle.grammar_core.specs.declared.table.Prod.{Prod}
 use Rattle.grammar_core.specs.declared.table.Prod.TheVariants.{Tok, Call, Seq, Case, Star}
 use Rattle.grammar_core.specs.declared.machine.Task.{Task}
-use Rattle.grammar_core.specs.declared.machine.Task.TheVariants.{Read, Close}
+use Rattle.grammar_core.specs.declared.machine.Task.TheVariants.{Read, Close, Repeat}
 use Rattle.grammar_core.specs.Tables.{rule_at}
 use Rattle.grammar_core.specs.Trees.{ParseTree}
+use Rattle.grammar_core.specs.Arena.{closed}
 use Rattle.grammar_core.specs.Derives.{next_is, begins, branch_of, max_level}
 use Rattle.grammar_core.specs.Answers.{Answer, Reading, then_at, in_turn, chosen, again, close, of_rule, of_production, answer, most_open, whole, outcome_of}
 use Rattle.grammar_core.specs.Tasks.{task, tasks_from, tasks, steps_of}
@@ -98,6 +99,8 @@ whole_shifts g ks p level at done n = answer_shifts g ks (suc (most_open g)) p l
 task_shifts : (g : Table) (ks : List ℕ) (t : Task) → Shifts (task g ks t)
 task_shifts g ks (Read p level) at done n = whole_shifts g ks p level at done n
 task_shifts g ks (Close r start) at done n = refl
+task_shifts g ks (Repeat p level r start) at done n = then_shifts (whole g ks p level) (λ to more m. Answer.ends to (closed r start more) (suc m))
+    (whole_shifts g ks p level) (λ to more m. refl) at done n
 
 from_shifts : (g : Table) (ks : List ℕ) (ts : List Task) (next : Reading) → Shifts next → Shifts (tasks_from g ks ts next)
 from_shifts g ks [] next h at done n = h at done n
@@ -107,3 +110,18 @@ from_shifts g ks (t ∷ ts) next h at done n = from_shifts g ks ts (λ to more m
 pub tasks_shift : (g : Table) (ks : List ℕ) (ts : List Task) → Shifts (tasks g ks ts)
 unfolding tasks
 tasks_shift g ks ts at done n = from_shifts g ks ts (λ to more m. Answer.ends to more m) (λ to more m. refl) at done n
+
+-- the steps that were counted before
+pub outcome_of-counted : (g : Table) (ks : List ℕ) (ts : List Task) (at : ℕ) (done : List ParseTree) (n : ℕ)
+    → outcome_of (tasks g ks ts at done n) ≡ outcome_of (tasks g ks ts at done 0)
+outcome_of-counted g ks ts at done zero = refl
+outcome_of-counted g ks ts at done (suc n) = ap (λ (a : Answer). outcome_of a) (tasks_shift g ks ts at done n) ∙ outcome_of-later (tasks g ks ts at done n)
+    ∙ outcome_of-counted g ks ts at done n
+
+pub steps_of-counted : (g : Table) (ks : List ℕ) (ts : List Task) (at : ℕ) (done : List ParseTree) (n : ℕ)
+    → steps_of (tasks g ks ts at done n) ≡ n + steps_of (tasks g ks ts at done 0)
+steps_of-counted g ks ts at done zero = omega arith
+steps_of-counted g ks ts at done (suc n) =
+    let one : steps_of (tasks g ks ts at done (suc n)) ≡ suc (steps_of (tasks g ks ts at done n)) = ap (λ (a : Answer). steps_of a)
+    (tasks_shift g ks ts at done n) ∙ steps_of-later (tasks g ks ts at done n) in
+    omega (arith, one, steps_of-counted g ks ts at done n)

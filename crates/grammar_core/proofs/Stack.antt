@@ -1,15 +1,15 @@
 -- The stack of tasks: what a step leaves to be done.
-use Rattle.std.proofs.Common.{◌≡◌, ℕ, ◌-◌, ◌<◌, true, List, [], ◌∷◌, ◌++◌, length, reverse, Option, Some, None, MatchOption, slice_get, nat_lt, Err, suc, refl, sym, ap, ◌∙◌, arith, subst, append_assoc, append-nil}
+use Rattle.std.proofs.Common.{◌≡◌, ℕ, ◌+◌, ◌-◌, ◌<◌, Bool, true, false, cond, List, [], ◌∷◌, ◌++◌, length, reverse, Option, Some, None, MatchOption, slice_get, nat_lt, Err, suc, refl, sym, ap, ◌∙◌, arith, subst, append_assoc, append-nil}
 use Rattle.std.specs.Bool.{⊤}
 use Rattle.std.proofs.lemmas.List.{reverse-append}
 use Rattle.std.proofs.lemmas.Option.{slice_get_within}
 use Rattle.grammar_core.specs.declared.table.Table.{Table}
 use Rattle.grammar_core.specs.declared.table.Prod.{Prod}
-use Rattle.grammar_core.specs.declared.table.Prod.TheVariants.{Call, Seq, Case, Star}
+use Rattle.grammar_core.specs.declared.table.Prod.TheVariants.{Tok, Call, Seq, Case, Star}
 use Rattle.grammar_core.specs.declared.table.Branch.{Branch}
 use Rattle.grammar_core.specs.declared.table.Rule.{Rule}
 use Rattle.grammar_core.specs.declared.machine.Task.{Task}
-use Rattle.grammar_core.specs.declared.machine.Task.TheVariants.{Read, Close}
+use Rattle.grammar_core.specs.declared.machine.Task.TheVariants.{Read, Close, Repeat}
 use Rattle.grammar_core.specs.declared.fault.ParseFault.{ParseFault}
 use Rattle.grammar_core.specs.declared.fault.ParseFault.TheVariants.{Memory, Stuck, Deep}
 use Rattle.grammar_core.specs.Tables.{rule_at}
@@ -18,12 +18,14 @@ use Rattle.grammar_core.specs.Empty.{MayBeEmpty}
 use Rattle.grammar_core.specs.Unfit.{IsFit}
 use Rattle.grammar_core.specs.Derives.{Outcome, begins, branch_of, max_level, level_in}
 use Rattle.grammar_core.specs.Answers.{Answer, Reading, then_at, in_turn, again, close, of_production, whole, outcome_of}
-use Rattle.grammar_core.specs.Tasks.{task, tasks_from, tasks, left, reads, IsTask, AreTasks, steps_of, Meets}
+use Rattle.grammar_core.specs.declared.machine.Parts.{Parts}
+use Rattle.grammar_core.specs.Arena.{closed}
+use Rattle.grammar_core.specs.Tasks.{task, tasks_from, tasks, left, reads, is_star, IsStar, two_parts, parts_in, repeated_parts, tasks_by_parts, rule_tasks, IsTask, AreTasks, Counted, steps_of, Meets}
 use Rattle.grammar_core.proofs.Fits.{IsBelow, AllBelow, OtherBelow, branch_below, fits, rule_there}
-use Rattle.grammar_core.proofs.Same.{unroll}
+use Rattle.grammar_core.proofs.Same.{then_same, unroll}
 use Rattle.grammar_core.proofs.Complete.{at_level, at_no_level, stop_some}
 use Rattle.grammar_core.proofs.Star.{star_more}
-use Rattle.grammar_core.proofs.Shift.{later, tasks_shift, outcome_of-later, steps_of-later}
+use Rattle.grammar_core.proofs.Shift.{outcome_of-counted, steps_of-counted}
 
 pub last_read : (level p : ℕ) (ps : List ℕ) (ts : List Task) → ts ++ reverse (reads level (p ∷ ps)) ≡ (ts ++ reverse (reads level ps)) ++ (Read p level ∷ [])
 last_read level p ps ts = rw (reverse-append (Read p level ∷ []) (reads level ps)) (sym (append_assoc ts (reverse (reads level ps)) (Read p level ∷ [])))
@@ -92,6 +94,30 @@ module _ (g : Table) (ks : List ℕ) where
       by_answer (Answer.deep x m) = refl
       by_answer (Answer.spent m) = refl
 
+  -- a repetition and the end of its rule, in one task
+  pub tasks-repeat : (ts : List Task) (p level r start at : ℕ) (done : List ParseTree) (n : ℕ) → tasks g ks (ts ++ (Repeat p level r start
+      ∷ [])) at done n ≡ tasks g ks ((ts ++ (Close r start ∷ [])) ++ (Read p level ∷ [])) at done n
+  tasks-repeat ts p level r start at done n =
+      tasks-snoc ts (Repeat p level r start) at done n
+      ∙ by_answer (whole g ks p level at done n)
+      ∙ sym (tasks-snoc (ts ++ (Close r start ∷ [])) (Read p level) at done n)
+    where
+      by_answer : (a : Answer) → then_at (then_at a (λ to more m. Answer.ends to (closed r start more) (suc m))) (λ x l i. tasks g ks ts x l i) ≡ then_at a
+          (λ to more m. tasks g ks (ts ++ (Close r start ∷ [])) to more m)
+      by_answer (Answer.ends to more m) = sym (tasks-snoc ts (Close r start) to more m)
+      by_answer (Answer.stuck x m) = refl
+      by_answer (Answer.deep x m) = refl
+      by_answer (Answer.spent m) = refl
+
+  -- the same, below another task
+  pub tasks-repeat_below : (ts : List Task) (t : Task) (p level r start at : ℕ) (done : List ParseTree) (n : ℕ) → tasks g ks ((ts ++ (Repeat p level r start
+      ∷ [])) ++ (t ∷ [])) at done n ≡ tasks g ks (((ts ++ (Close r start ∷ [])) ++ (Read p level ∷ [])) ++ (t ∷ [])) at done n
+  tasks-repeat_below ts t p level r start at done n =
+      tasks-snoc (ts ++ (Repeat p level r start ∷ [])) t at done n
+      ∙ then_same (task g ks t at done n) (λ to more m. tasks g ks (ts ++ (Repeat p level r start ∷ [])) to more m) (λ to more m. tasks g ks ((ts ++ (Close r start
+      ∷ [])) ++ (Read p level ∷ [])) to more m) (tasks-repeat ts p level r start)
+      ∙ sym (tasks-snoc ((ts ++ (Close r start ∷ [])) ++ (Read p level ∷ [])) t at done n)
+
   module _ (fit : IsFit g) where
     pub tasks-star : (ts : List Task) (p q level : ℕ) (firsts : List ℕ) (at : ℕ) (done : List ParseTree) (n : ℕ) → slice_get g.prods p ≡ Some (Star firsts q)
         → p < length g.prods → (MayBeEmpty g q → ⊥) → begins ks at firsts ≡ true
@@ -122,22 +148,115 @@ did_call g ks old new level at done n r rule inner is l e =
     let same = at_level rule.nests (nat_lt level max_level) level inner l (λ y. close r done (whole g ks rule.to y at done n)) (Answer.deep at n) in
     rw (e, is) (tasks-rule g ks old r rule.to inner at done n ∙ ap (λ (a : Answer). then_at a (λ to more m. tasks g ks old to more m)) (sym same))
 
+-- the parts of a production are told only where it has them
+pub record HasParts (g : Table) (p : ℕ) (parts : Parts) : Type 0 where
+  pub is : slice_get g.prods p ≡ Some (Seq (parts.first ∷ (parts.repeated ∷ [])))
+  pub star : IsStar g parts.repeated
+
+two_found : (g : Table) (p : ℕ) (ps : List ℕ) (parts : Parts) → slice_get g.prods p ≡ Some (Seq ps) → two_parts g ps ≡ Some parts → HasParts g p parts
+two_found g p [] parts is e = (cc)
+two_found g p (x ∷ []) parts is e = (cc)
+two_found g p (x ∷ (y ∷ [])) parts is e = by_star (is_star (slice_get g.prods y)) refl e
+  where
+    by_star : (v : Bool) → is_star (slice_get g.prods y) ≡ v → cond v (Some (record { first = x; repeated = y })) None ≡ Some parts → HasParts g p parts
+    by_star true s e = let same : record { first = x; repeated = y } ≡ parts = cc in subst (λ (z : Parts). HasParts g p z) same (record { is = is; star = s })
+    by_star false s e = (cc)
+two_found g p (x ∷ (y ∷ (z ∷ more))) parts is e = (cc)
+
+parts_found : (g : Table) (p : ℕ) (x : Option Prod) (parts : Parts) → slice_get g.prods p ≡ x → parts_in g x ≡ Some parts → HasParts g p parts
+parts_found g p None parts is e = (cc)
+parts_found g p (Some (Tok k)) parts is e = (cc)
+parts_found g p (Some (Call r)) parts is e = (cc)
+parts_found g p (Some (Seq ps)) parts is e = two_found g p ps parts is e
+parts_found g p (Some (Case bs other)) parts is e = (cc)
+parts_found g p (Some (Star firsts q)) parts is e = (cc)
+
+-- one part and a repetition: two steps in one
+pub tasks-parts : (g : Table) (fit : IsFit g) (ks : List ℕ) (old : List Task) (r p level start at : ℕ) (done : List ParseTree) (n : ℕ) (parts : Parts)
+    → p < length g.prods → HasParts g p parts → tasks g ks ((old ++ (Repeat parts.repeated level r start ∷ [])) ++ (Read parts.first level
+    ∷ [])) at done (suc n) ≡ tasks g ks ((old ++ (Close r start ∷ [])) ++ (Read p level ∷ [])) at done n
+tasks-parts g fit ks old r p level start at done n parts inside h =
+    let base : List Task = old ++ (Close r start ∷ []) in
+    let ps : List ℕ = parts.first ∷ (parts.repeated ∷ []) in
+    tasks-repeat_below g ks old (Read parts.first level) parts.repeated level r start at done (suc n)
+    ∙ ap (λ (l : List Task). tasks g ks l at done (suc n)) (append_assoc base (Read parts.repeated level ∷ []) (Read parts.first level ∷ []))
+    ∙ tasks-all g ks level ps base at done (suc n)
+    ∙ ap (λ (x : Option Prod). then_at (of_production g ks (whole g ks) level x at done (suc n)) (λ to more m. tasks g ks base to more m)) (sym h.is)
+    ∙ ap (λ (a : Answer). then_at a (λ to more m. tasks g ks base to more m)) (sym (unroll g fit ks p level at done n inside))
+    ∙ sym (tasks-snoc g ks base (Read p level) at done n)
+
+did_parts : (g : Table) (fit : IsFit g) (ks : List ℕ) (old : List Task) (r : ℕ) (rule : Rule) (inner level at : ℕ) (done : List ParseTree)
+    → rule_at g r ≡ Some rule → level_in rule level ≡ Some inner → rule.to < length g.prods → AreTasks g old → (o : Option Parts) → repeated_parts g rule.to ≡ o
+    → Counted g ks (old ++ tasks_by_parts o r rule.to inner (length done)) at done (then_at (of_production g ks (whole g ks) level (Some (Call r)) at done 1)
+    (λ to more m. tasks g ks old to more m)) × AreTasks g (old ++ tasks_by_parts o r rule.to inner (length done))
+did_parts g fit ks old r rule inner level at done i l inside all None e =
+    let same : old ++ (Close r (length done) ∷ (Read rule.to inner ∷ [])) ≡ (old ++ (Close r (length done) ∷ [])) ++ (Read rule.to inner
+    ∷ []) = sym (append_assoc old (Close r (length done) ∷ []) (Read rule.to inner ∷ [])) in
+    rw same (
+      record { more = 0; same = did_call g ks old ((old ++ (Close r (length done) ∷ [])) ++ (Read rule.to inner ∷ [])) level at done 1 r rule inner i l refl },
+      AreTasks-snoc g ks (old ++ (Close r (length done) ∷ [])) (Read rule.to inner) (AreTasks-snoc g ks old (Close r (length done)) all tt) inside,
+    )
+did_parts g fit ks old r rule inner level at done i l inside all (Some parts) e =
+    let h = parts_found g rule.to (slice_get g.prods rule.to) parts refl e in
+    let f = fits g fit rule.to (Seq (parts.first ∷ (parts.repeated ∷ []))) h.is in
+    let same : old ++ (Repeat parts.repeated inner r (length done) ∷ (Read parts.first inner ∷ [])) ≡ (old ++ (Repeat parts.repeated inner r (length done)
+    ∷ [])) ++ (Read parts.first inner ∷ []) = sym (append_assoc old (Repeat parts.repeated inner r (length done) ∷ []) (Read parts.first inner ∷ [])) in
+    rw same (
+      record {
+        more = 1;
+        same = tasks-parts g fit ks old r rule.to inner (length done) at done 1 parts inside h
+            ∙ did_call g ks old ((old ++ (Close r (length done) ∷ [])) ++ (Read rule.to inner ∷ [])) level at done 1 r rule inner i l refl;
+      },
+      AreTasks-snoc g ks (old ++ (Repeat parts.repeated inner r (length done) ∷ [])) (Read parts.first inner) (AreTasks-snoc g ks old
+          (Repeat parts.repeated inner r (length done)) all h.star) f.0.inside,
+    )
+
+-- a repetition at the end of its rule that goes on, and one that does not
+pub repeat_goes_on : (g : Table) (fit : IsFit g) (ks : List ℕ) (old new : List Task) (p level r start at : ℕ) (done : List ParseTree) (firsts : List ℕ) (q : ℕ)
+    → slice_get g.prods p ≡ Some (Star firsts q) → AreTasks g old → begins ks at firsts ≡ true → new ≡ (old ++ (Repeat p level r start ∷ [])) ++ (Read q level
+    ∷ []) → Counted g ks new at done (then_at (task g ks (Repeat p level r start) at done 0) (λ to more m. tasks g ks old to more m)) × AreTasks g new
+repeat_goes_on g fit ks old new p level r start at done firsts q is all b n =
+    let base : List Task = old ++ (Close r start ∷ []) in
+    let f = fits g fit p (Star firsts q) is in
+    let inside = slice_get_within g.prods p (Star firsts q) is in
+    let star : IsStar g p = ap (λ (x : Option Prod). is_star x) is in
+    rw n (
+      record {
+        more = 0;
+        same = tasks-repeat_below g ks old (Read q level) p level r start at done 1
+            ∙ tasks-star g ks fit base p q level firsts at done 1 is inside f.1 b
+            ∙ ap (λ (x : Option Prod). then_at (of_production g ks (whole g ks) level x at done 1) (λ to more m. tasks g ks base to more m)) (sym is)
+            ∙ ap (λ (a : Answer). then_at a (λ to more m. tasks g ks base to more m)) (sym (unroll g fit ks p level at done 0 inside))
+            ∙ sym (tasks-snoc g ks base (Read p level) at done 0)
+            ∙ sym (tasks-repeat g ks old p level r start at done 0)
+            ∙ tasks-snoc g ks old (Repeat p level r start) at done 0;
+      },
+      AreTasks-snoc g ks (old ++ (Repeat p level r start ∷ [])) (Read q level) (AreTasks-snoc g ks old (Repeat p level r start) all star) f.0.inside,
+    )
+
+pub repeat_ends : (g : Table) (fit : IsFit g) (ks : List ℕ) (old new : List Task) (p level r start at : ℕ) (done trees : List ParseTree) (firsts : List ℕ)
+    (q : ℕ) → slice_get g.prods p ≡ Some (Star firsts q) → AreTasks g old → begins ks at firsts ≡ false → new ≡ old → trees ≡ closed r start done
+    → Counted g ks new at trees (then_at (task g ks (Repeat p level r start) at done 0) (λ to more m. tasks g ks old to more m)) × AreTasks g new
+repeat_ends g fit ks old new p level r start at done trees firsts q is all b n t =
+    let inside = slice_get_within g.prods p (Star firsts q) is in
+    rw (n, t) (record { more = 1; same = rw (unroll g fit ks p level at done 0 inside, is, b) refl }, all)
+
 module _ (g : Table) (fit : IsFit g) (ks : List ℕ) (x : Prod) (p level at : ℕ) (done : List ParseTree) (old new : List Task) (is : slice_get g.prods p ≡ Some x)
     (all : AreTasks g old) where
   abbrev pub Did : Type 0
-  Did = (tasks g ks new at done 1 ≡ then_at (of_production g ks (whole g ks) level (Some x) at done 1) (λ to more m. tasks g ks old to more m)) × AreTasks g new
+  Did = Counted g ks new at done (then_at (of_production g ks (whole g ks) level (Some x) at done 1) (λ to more m. tasks g ks old to more m)) × AreTasks g new
 
   abbrev is_as : (y : Prod) → x ≡ y → slice_get g.prods p ≡ Some y
   is_as y e = subst (λ (z : Prod). slice_get g.prods p ≡ Some z) e is
 
   pub did_seq : (ps : List ℕ) → x ≡ Seq ps → new ≡ old ++ reverse (reads level ps) → Did
-  did_seq ps e n = rw (e, n) (tasks-all g ks level ps old at done 1, AreTasks-all g ks p level ps old (fits g fit p (Seq ps) (is_as (Seq ps) e)) all)
+  did_seq ps e n = rw (e, n) (record { more = 0; same = tasks-all g ks level ps old at done 1 }, AreTasks-all g ks p level ps old (fits g fit p (Seq ps) (is_as (Seq ps) e)) all)
 
   pub did_case : (bs : List Branch) (other : Option ℕ) (q : ℕ) → x ≡ Case bs other → branch_of ks at bs other ≡ Some q → new ≡ old ++ (Read q level ∷ []) → Did
   did_case bs other q e b n =
       let f = fits g fit p (Case bs other) (is_as (Case bs other) e) in
       rw (e, n, b) (
-        tasks-snoc g ks old (Read q level) at done 1,
+        record { more = 0; same = tasks-snoc g ks old (Read q level) at done 1 },
         AreTasks-snoc g ks old (Read q level) all (other_inside g p q (branch_of ks at bs other) b
             (branch_below g ks p at bs other f)),
       )
@@ -148,21 +267,18 @@ module _ (g : Table) (fit : IsFit g) (ks : List ℕ) (x : Prod) (p level at : �
       let f = fits g fit p (Star firsts q) i in
       let inside = slice_get_within g.prods p (Star firsts q) i in
       rw (n) (
-        rw e (tasks-star g ks fit old p q level firsts at done 1 i inside f.1 b),
+        rw e (record { more = 0; same = tasks-star g ks fit old p q level firsts at done 1 i inside f.1 b }),
         AreTasks-snoc g ks (old ++ (Read p level
             ∷ [])) (Read q level) (AreTasks-snoc g ks old (Read p level) all inside) f.0.inside,
       )
 
-  pub did_rule : (r : ℕ) (rule : Rule) (inner : ℕ) → x ≡ Call r → r < length g.rules → rule_at g r ≡ Some rule → level_in rule level ≡ Some inner → new ≡ (old
-      ++ (Close r (length done) ∷ [])) ++ (Read rule.to inner ∷ []) → Did
+  pub did_rule : (r : ℕ) (rule : Rule) (inner : ℕ) → x ≡ Call r → r < length g.rules → rule_at g r ≡ Some rule → level_in rule level ≡ Some inner
+      → new ≡ old ++ rule_tasks g r rule.to inner (length done) → Did
   did_rule r rule inner e h i l n =
       let there = rule_there g fit r h in
       let same : there.0 ≡ rule = let s : Some there.0 ≡ Some rule = sym there.1 ∙ i in cc in
-      let inside : rule.to < length g.prods = subst (λ (z : Rule). z.to < length g.prods) same there.2 in (
-        rw e (did_call g ks old new level at done 1 r rule inner i l n),
-        rw n (AreTasks-snoc g ks (old ++ (Close r (length done)
-            ∷ [])) (Read rule.to inner) (AreTasks-snoc g ks old (Close r (length done)) all tt) inside),
-      )
+      let inside : rule.to < length g.prods = subst (λ (z : Rule). z.to < length g.prods) same there.2 in
+      rw (e, n) (did_parts g fit ks old r rule inner level at done i l inside all (repeated_parts g rule.to) refl)
 
   pub did_not : (r : ℕ) (rule : Rule) → x ≡ Call r → rule_at g r ≡ Some rule → level_in rule level ≡ None
       → of_production g ks (whole g ks) level (Some x) at done 1 ≡ Answer.deep at 1
@@ -191,17 +307,17 @@ pub taken : (r : Option Task) (old new : List Task) (next : Option Task) → Mat
 taken None old new next h k = (rw k h, λ e. k)
 taken (Some t) old new next h k = (h, λ e. absurd (cc))
 
--- one step: the outcome stays, and one step less is to come
+-- one step: the outcome stays, and fewer steps are to come
 pub one_step : (g : Table) (ks : List ℕ) (stack rest new : List Task) (t : Task) (at to : ℕ) (done more : List ParseTree) → stack ≡ rest ++ (t ∷ [])
-    → tasks g ks new to more 1 ≡ then_at (task g ks t at done 0) (λ x l i. tasks g ks rest x l i)
+    → Counted g ks new to more (then_at (task g ks t at done 0) (λ x l i. tasks g ks rest x l i))
     → (outcome_of (tasks g ks new to more 0) ≡ outcome_of (tasks g ks stack at done 0)) × (steps_of (tasks g ks new to more 0) < steps_of
     (tasks g ks stack at done 0))
 one_step g ks stack rest new t at to done more s e =
-    let all : tasks g ks stack at done 0 ≡ later (tasks g ks new to more 0) = ap (λ (l : List Task). tasks g ks l at done 0) s
-    ∙ tasks-snoc g ks rest t at done 0 ∙ sym e ∙ tasks_shift g ks new to more 0 in
-    let less : steps_of (tasks g ks stack at done 0) ≡ suc (steps_of (tasks g ks new to more 0)) = ap (λ (a : Answer). steps_of a) all
-    ∙ steps_of-later (tasks g ks new to more 0) in
-    (sym (ap (λ (a : Answer). outcome_of a) all ∙ outcome_of-later (tasks g ks new to more 0)), omega (arith, less))
+    let all : tasks g ks stack at done 0 ≡ tasks g ks new to more (suc e.more) = ap (λ (l : List Task). tasks g ks l at done 0) s
+    ∙ tasks-snoc g ks rest t at done 0 ∙ sym e.same in
+    let less : steps_of (tasks g ks stack at done 0) ≡ suc e.more + steps_of (tasks g ks new to more 0) = ap (λ (a : Answer). steps_of a) all
+    ∙ steps_of-counted g ks new to more (suc e.more) in
+    (sym (ap (λ (a : Answer). outcome_of a) all ∙ outcome_of-counted g ks new to more (suc e.more)), omega (arith, less))
 
 -- the first two tasks
 pub started : (g : Table) (fit : IsFit g) (ks : List ℕ) (trees : List ParseTree) (none stack : List Task) (r inner : ℕ) (rule : Rule) → trees ≡ [] → none ≡ []

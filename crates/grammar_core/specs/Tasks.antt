@@ -1,13 +1,15 @@
 -- What is still to be done: a stack of tasks, the next one last. Only proofs use these words.
-use Rattle.std.specs.Prelude.{◌≡◌, ℕ, ◌<◌, List, [], ◌∷◌, ◌++◌, length, map, suc, Option, Some, option_to_list, Result, Ok, Err}
+use Rattle.std.specs.Prelude.{◌≡◌, ℕ, ◌<◌, Bool, true, false, if◌then◌else◌, List, [], ◌∷◌, ◌++◌, length, map, suc, slice_get, Option, Some, None, option_to_list, Result, Ok, Err}
 use Rattle.grammar_core.specs.declared.table.Table.{Table}
 use Rattle.grammar_core.specs.declared.fault.ParseFault.{ParseFault}
 use Rattle.grammar_core.specs.declared.fault.ParseFault.TheVariants.{Memory, Stuck, Deep}
 use Rattle.grammar_core.specs.declared.machine.Done.{Done}
 use Rattle.grammar_core.specs.declared.table.Prod.{Prod}
+use Rattle.grammar_core.specs.declared.table.Prod.TheVariants.{Tok, Call, Seq, Case, Star}
+use Rattle.grammar_core.specs.declared.machine.Parts.{Parts}
 use Rattle.grammar_core.specs.declared.machine.Position.{Position}
 use Rattle.grammar_core.specs.declared.machine.Task.{Task}
-use Rattle.grammar_core.specs.declared.machine.Task.TheVariants.{Read, Close}
+use Rattle.grammar_core.specs.declared.machine.Task.TheVariants.{Read, Close, Repeat}
 use Rattle.grammar_core.specs.declared.machine.Work.{Work}
 use Rattle.grammar_core.specs.Trees.{ParseTree}
 use Rattle.grammar_core.specs.Arena.{closed, read_trees}
@@ -27,6 +29,7 @@ answer_at g ks x here done = of_production g ks (whole g ks) here.level (Some x)
 abbrev pub task : Table → List ℕ → Task → Reading
 task g ks (Read p level) at done n = whole g ks p level at done n
 task g ks (Close r start) at done n = Answer.ends at (closed r start done) (suc n)
+task g ks (Repeat p level r start) at done n = then_at (whole g ks p level at done n) (λ to more m. Answer.ends to (closed r start more) (suc m))
 
 abbrev pub tasks_from : Table → List ℕ → List Task → Reading → Reading
 tasks_from g ks [] next at done n = next at done n
@@ -38,13 +41,53 @@ tasks g ks ts at done n = tasks_from g ks ts (λ to more m. Answer.ends to more 
 abbrev pub reads : ℕ → List ℕ → List Task
 reads level ps = map (λ p. Read p level) ps
 
+abbrev pub is_star : Option Prod → Bool
+is_star None = false
+is_star (Some (Tok k)) = false
+is_star (Some (Call r)) = false
+is_star (Some (Seq ps)) = false
+is_star (Some (Case bs other)) = false
+is_star (Some (Star firsts q)) = true
+
+-- the production of this number is a repetition
+abbrev pub IsStar : Table → ℕ → Type 0
+IsStar g p = is_star (slice_get g.prods p) ≡ true
+
 abbrev pub IsTask : Table → Task → Type 0
 IsTask g (Read p level) = p < length g.prods
 IsTask g (Close r start) = Unit {0}
+IsTask g (Repeat p level r start) = IsStar g p
 
 abbrev pub AreTasks : Table → List Task → Type 0
 AreTasks g [] = Unit {0}
 AreTasks g (t ∷ ts) = IsTask g t × AreTasks g ts
+
+-- one part and a repetition
+abbrev pub two_parts : Table → List ℕ → Option Parts
+two_parts g [] = None
+two_parts g (p ∷ []) = None
+two_parts g (p ∷ (q ∷ [])) = if is_star (slice_get g.prods q) then Some (record { first = p; repeated = q }) else None
+two_parts g (p ∷ (q ∷ (x ∷ more))) = None
+
+abbrev pub parts_in : Table → Option Prod → Option Parts
+parts_in g None = None
+parts_in g (Some (Tok k)) = None
+parts_in g (Some (Call r)) = None
+parts_in g (Some (Seq ps)) = two_parts g ps
+parts_in g (Some (Case bs other)) = None
+parts_in g (Some (Star firsts q)) = None
+
+-- the parts of a production that is one part and a repetition
+abbrev pub repeated_parts : Table → ℕ → Option Parts
+repeated_parts g p = parts_in g (slice_get g.prods p)
+
+abbrev pub tasks_by_parts : Option Parts → ℕ → ℕ → ℕ → ℕ → List Task
+tasks_by_parts None r to level start = Close r start ∷ (Read to level ∷ [])
+tasks_by_parts (Some parts) r to level start = Repeat parts.repeated level r start ∷ (Read parts.first level ∷ [])
+
+-- the tasks of a rule with this production, at a level inside it
+abbrev pub rule_tasks : Table → ℕ → ℕ → ℕ → ℕ → List Task
+rule_tasks g r to level start = tasks_by_parts (repeated_parts g to) r to level start
 
 -- the tasks that are left, with the one that comes next
 abbrev pub left : List Task → Option Task → List Task
@@ -57,9 +100,14 @@ Meets (Err Memory) trees a = Unit {0}
 Meets (Err (Stuck at)) trees a = outcome_of a ≡ Some (Outcome.stuck at)
 Meets (Err (Deep at)) trees a = outcome_of a ≡ Some (Outcome.deep at)
 
--- one step was done, which counts one, of a task that answers this
+-- one step or more were counted before these tasks, and with them it is this answer
+pub record Counted (g : Table) (ks : List ℕ) (ts : List Task) (at : ℕ) (trees : List ParseTree) (a : Answer) : Type 0 where
+  pub more : ℕ
+  pub same : tasks g ks ts at trees (suc more) ≡ a
+
+-- one step was done, which counts one or more, of a task that answers this
 abbrev pub Stepped : Table → List ℕ → Result Done ParseFault → Work → Work → Answer → Type 0
 Stepped g ks (Ok done) old new a =
-    (tasks g ks (left new.stack.items done.next) done.at (read_trees new.built) 1 ≡ then_at a (λ at so_far n. tasks g ks old.stack.items at so_far n))
+    Counted g ks (left new.stack.items done.next) done.at (read_trees new.built) (then_at a (λ at so_far n. tasks g ks old.stack.items at so_far n))
     × AreTasks g (left new.stack.items done.next)
 Stepped g ks (Err e) old new a = Meets (Err e) (read_trees new.built) a

@@ -7,7 +7,7 @@ use crate::{Branch, Rule, Table};
 use use_text::Token;
 
 /// How many rules that nest may be open.
-pub(crate) const MAX_LEVEL: u32 = 200;
+pub(crate) const MAX_LEVEL: u8 = 200;
 
 pub(crate) fn is_marked(seen: &[bool], at: usize) -> bool
     ensures { result ≡ is_marked seen.now at }
@@ -62,7 +62,7 @@ pub(crate) fn branch_of(
     other
 }
 
-pub(crate) fn level_in(rule: Rule, level: u32) -> Option<u32>
+pub(crate) fn level_in(rule: Rule, level: u8) -> Option<u8>
     ensures { result ≡ level_in rule level }
 {
     if rule.nests {

@@ -2,7 +2,8 @@ ghost use Rattle.std.specs.Prelude.{◌≡◌, ◌+◌, ◌-◌, ◌<◌, ◌^�
 ghost use Rattle.grammar_core.specs.Answers.{of_production, whole};
 ghost use Rattle.grammar_core.specs.Arena.{read_trees};
 ghost use Rattle.grammar_core.specs.Derives.{kinds};
-ghost use Rattle.grammar_core.specs.Tasks.{AreTasks, IsTask, Stepped, answer_at, reads, task, Meets};
+ghost use Rattle.grammar_core.specs.Tasks.{AreTasks, IsStar, IsTask, Stepped, answer_at, reads, repeated_parts, rule_tasks, task, Meets};
+ghost use Rattle.grammar_core.specs.declared.machine.Task.TheVariants.{Repeat};
 ghost use Rattle.grammar_core.specs.Unfit.{IsFit};
 ghost use Rattle.grammar_core.specs.declared.table.Prod.TheVariants.{Call};
 
@@ -15,17 +16,26 @@ use use_text::Token;
 #[derive(Clone, Copy, Debug, PartialEq, Eq)]
 pub(crate) enum Task {
     /// Read a production, at a level of nesting.
-    Read(u16, u32),
+    Read(u16, u8),
     /// Put the trees from a place on below a rule.
     Close(u16, u64),
+    /// Read a repetition, at a level of nesting, and then put the trees from a place on below a rule.
+    Repeat(u16, u8, u16, u64),
 }
 
 /// Where a production is read: its number, the level of nesting, and the place of the next token.
 #[derive(Clone, Copy)]
 pub(crate) struct Position {
     pub(crate) prod: u16,
-    pub(crate) level: u32,
+    pub(crate) level: u8,
     pub(crate) at: u32,
+}
+
+/// The two parts of a rule: what is read first, and a repetition behind it.
+#[derive(Clone, Copy)]
+pub(crate) struct Parts {
+    pub(crate) first: u16,
+    pub(crate) repeated: u16,
 }
 
 /// What a parse works on: the tasks that are left, the next one last, and the trees so far.
@@ -52,7 +62,7 @@ fn put(stack: &mut Vec<Task>, task: Task) -> Result<(), ParseFault>
     }
 }
 
-fn put_all(stack: &mut Vec<Task>, level: u32, ps: &[u16]) -> Result<(), ParseFault>
+fn put_all(stack: &mut Vec<Task>, level: u8, ps: &[u16]) -> Result<(), ParseFault>
     ensures { MatchResult result (λ u. stack.new.items ≡ stack.old.items ++ reverse (reads level ps.now)) (λ e. e ≡ ParseFault.Memory) }
 {
     let mut i = ps.len();
@@ -64,7 +74,7 @@ fn put_all(stack: &mut Vec<Task>, level: u32, ps: &[u16]) -> Result<(), ParseFau
 }
 
 /// Leaves the reading of each production in turn. The first one comes next.
-fn put_seq(stack: &mut Vec<Task>, level: u32, ps: &[u16]) -> Result<Option<Task>, ParseFault>
+fn put_seq(stack: &mut Vec<Task>, level: u8, ps: &[u16]) -> Result<Option<Task>, ParseFault>
     ensures { MatchResult result (λ next. stack.new.items ++ option_to_list next ≡ stack.old.items ++ reverse (reads level ps.now))
         (λ e. e ≡ ParseFault.Memory) }
 {
@@ -86,6 +96,74 @@ fn take_next(stack: &mut Vec<Task>, next: Option<Task>) -> Option<Task>
     match next {
         Some(task) => Some(task),
         None => stack.pop(),
+    }
+}
+
+/// The parts of a production that is one part and a repetition.
+fn repeated_parts(g: &Grammar, p: u16) -> Option<Parts>
+    requires fit { IsFit g.now }
+    requires inside { p < length g.now.prods }
+    ensures { result ≡ repeated_parts g.now p }
+{
+    let Prod::Seq(ps) = g.prod(p) else {
+        return None;
+    };
+    let [first, last] = ps.as_slice() else {
+        return None;
+    };
+    match g.prod(*last) {
+        Prod::Star(_, _) => Some(Parts {
+            first: *first,
+            repeated: *last,
+        }),
+        _ => None,
+    }
+}
+
+/// Leaves what a rule reads to be done, and its end.
+fn put_rule(g: &Grammar, r: u16, to: u16, level: u8, work: &mut Work) -> Result<Task, ParseFault>
+    requires fit { IsFit g.now }
+    requires inside { to < length g.now.prods }
+    ensures { MatchResult result (λ next. (work.new.stack.items ++ next ∷ []
+        ≡ work.old.stack.items ++ rule_tasks g.now r to level (length (read_trees work.old.built)))
+        × (work.new.built ≡ work.old.built)) (λ e. e ≡ ParseFault.Memory) }
+{
+    let start = work.built.len() as u64;
+    match repeated_parts(g, to) {
+        Some(Parts { first, repeated }) => {
+            put(&mut work.stack, Task::Repeat(repeated, level, r, start))?;
+            Ok(Task::Read(first, level))
+        }
+        None => {
+            put(&mut work.stack, Task::Close(r, start))?;
+            Ok(Task::Read(to, level))
+        }
+    }
+}
+
+/// Begins a rule. Where it is one part and a repetition, the part comes next.
+fn step_rule(
+    g: &Grammar,
+    tokens: &[Token],
+    r: u16,
+    here: Position,
+    work: &mut Work,
+) -> Result<Done, ParseFault>
+    requires fit { IsFit g.now }
+    requires is { slice_get g.now.prods here.prod ≡ Some (Call r) }
+    requires all { AreTasks g.now work.old.stack.items }
+    ensures { Stepped g.now (kinds tokens.now) result work.old work.new (answer_at g.now (kinds tokens.now) (Call r) here (read_trees work.old.built)) }
+{
+    let rule = g.rule_in(r);
+    match level_in(rule, here.level) {
+        Some(inner) => {
+            let next = put_rule(g, r, rule.to, inner, work)?;
+            Ok(Done {
+                at: here.at,
+                next: Some(next),
+            })
+        }
+        None => Err(ParseFault::Deep { token: here.at }),
     }
 }
 
@@ -116,19 +194,7 @@ fn step_production(
                 Err(ParseFault::Stuck { token: at })
             }
         }
-        Prod::Call(r) => {
-            let rule = g.rule_in(*r);
-            match level_in(rule, level) {
-                Some(inner) => {
-                    put(&mut work.stack, Task::Close(*r, work.built.len() as u64))?;
-                    Ok(Done {
-                        at,
-                        next: Some(Task::Read(rule.to, inner)),
-                    })
-                }
-                None => Err(ParseFault::Deep { token: at }),
-            }
-        }
+        Prod::Call(r) => step_rule(g, tokens, *r, here, work),
         Prod::Seq(ps) => {
             let next = put_seq(&mut work.stack, level, ps.as_slice())?;
             Ok(Done { at, next })
@@ -156,6 +222,39 @@ fn step_production(
     }
 }
 
+/// Does a repetition that is the last part of a rule, and ends the rule where it goes on no more.
+fn step_repeat(
+    g: &Grammar,
+    tokens: &[Token],
+    rule: u16,
+    start: u64,
+    here: Position,
+    work: &mut Work,
+) -> Result<Done, ParseFault>
+    requires fit { IsFit g.now }
+    requires star { IsStar g.now here.prod }
+    requires all { AreTasks g.now work.old.stack.items }
+    ensures { Stepped g.now (kinds tokens.now) result work.old work.new
+        (task g.now (kinds tokens.now) (Repeat here.prod here.level rule start) here.at (read_trees work.old.built) 0) }
+{
+    let Position { prod, level, at } = here;
+    match g.prod(prod) {
+        Prod::Star(firsts, q) => {
+            if g.goes_on(tokens, at, prod, firsts.as_slice(), *q) {
+                put(&mut work.stack, Task::Repeat(prod, level, rule, start))?;
+                Ok(Done {
+                    at,
+                    next: Some(Task::Read(*q, level)),
+                })
+            } else {
+                work.built.close(rule, start)?;
+                Ok(Done { at, next: None })
+            }
+        }
+        _ => unreachable!(),
+    }
+}
+
 fn step(
     g: &Grammar,
     tokens: &[Token],
@@ -177,6 +276,10 @@ fn step(
         Task::Close(rule, start) => {
             work.built.close(rule, start)?;
             Ok(Done { at, next: None })
+        }
+        Task::Repeat(prod, level, rule, start) => {
+            let here = Position { prod, level, at };
+            step_repeat(g, tokens, rule, start, here, work)
         }
     }
 }

@@ -136,7 +136,7 @@ fn size_fault<S: StateReader>(store: &S, change: &Change) -> Option<StoreFault>
 }
 
 /// The first fault that a change has in a store's state, whose old parts agree with that state.
-pub fn fault<S: StateReader>(store: &S, change: &Change) -> Option<StoreFault>
+pub(crate) fn fault<S: StateReader>(store: &S, change: &Change) -> Option<StoreFault>
     requires valid { IsValid (S.held store.now).layout (S.held store.now).state }
     requires agrees { OldPartsAgree (S.held store.now).layout (S.held store.now).state change.now }
     ensures { result ≡ fault (S.held store.now).layout (S.held store.now).state change.now }

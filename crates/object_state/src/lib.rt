@@ -13,9 +13,9 @@ mod objects;
 mod plain;
 mod plain_changes;
 mod plain_looks;
-mod plain_world;
 mod proposals;
 mod reader;
+mod reader_world;
 mod store_fault;
 mod touch;
 mod weights;
@@ -29,7 +29,6 @@ pub use laws::{
     touched_cells_are_altered,
 };
 pub use layout::{AssocLayout, ClassLayout, Layout};
-pub use looks::{class_of, end_of, has_at, items_at, value_of};
 pub use objects::{Object, Variable, object_of, set_slot};
 pub use plain::PlainStore;
 pub use proposals::{creation, linking};

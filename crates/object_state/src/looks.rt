@@ -9,7 +9,7 @@ use std::alloc::{AllocError, Global};
 use use_lists::Items;
 
 /// The object that a link has at an end.
-pub fn end_of(pair: (ObjNo, ObjNo), end: End) -> ObjNo
+pub(crate) fn end_of(pair: (ObjNo, ObjNo), end: End) -> ObjNo
     ensures { result ≡ end_of pair end }
 {
     match end {
@@ -19,14 +19,19 @@ pub fn end_of(pair: (ObjNo, ObjNo), end: End) -> ObjNo
 }
 
 /// Whether a link of an association has an object at an end.
-pub fn has_at(assoc: AssocNo, end: End, object: ObjNo, entry: &(LinkKey, (ObjNo, ObjNo))) -> bool
+pub(crate) fn has_at(
+    assoc: AssocNo,
+    end: End,
+    object: ObjNo,
+    entry: &(LinkKey, (ObjNo, ObjNo)),
+) -> bool
     ensures { result ≡ has_at assoc end object entry.now }
 {
     entry.0.0 == assoc && end_of(entry.1, end) == object
 }
 
 /// The class of a live object.
-pub fn class_of<S: StateReader>(store: &S, object: ObjNo) -> Option<ClassNo>
+pub(crate) fn class_of<S: StateReader>(store: &S, object: ObjNo) -> Option<ClassNo>
     ensures { result ≡ class_of (S.held store.now).state object }
 {
     match store.object(object) {
@@ -36,7 +41,7 @@ pub fn class_of<S: StateReader>(store: &S, object: ObjNo) -> Option<ClassNo>
 }
 
 /// The value of an attribute of a live object.
-pub fn value_of<S: StateReader>(
+pub(crate) fn value_of<S: StateReader>(
     alloc: Global,
     store: &S,
     object: ObjNo,
@@ -64,7 +69,7 @@ fn stands<S: StateReader>(store: &S, assoc: AssocNo, end: End, object: ObjNo) ->
 }
 
 /// The objects at an end of an object that may stand at the opposite one.
-pub fn items_at<S: StateReader>(
+pub(crate) fn items_at<S: StateReader>(
     alloc: Global,
     store: &S,
     assoc: AssocNo,
@@ -81,7 +86,11 @@ pub fn items_at<S: StateReader>(
 }
 
 /// What a cell holds.
-pub fn look_at<S: StateReader>(alloc: Global, store: &S, cell: &Cell) -> Result<Look, AllocError>
+pub(crate) fn look_at<S: StateReader>(
+    alloc: Global,
+    store: &S,
+    cell: &Cell,
+) -> Result<Look, AllocError>
     ensures { IfOk result (λ seen. seen ≡ look (S.held store.now).layout (S.held store.now).state cell.now) }
 {
     Ok(match *cell {

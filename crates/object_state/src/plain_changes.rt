@@ -1,4 +1,4 @@
-ghost use Rattle.std.specs.Prelude.{◌≡◌, OnOk, IfOk};
+ghost use Rattle.std.specs.Prelude.{◌≡◌, OnOk, OnErr, IfOk};
 ghost use Rattle.object_state.specs.Changes.{apply, inverse};
 ghost use Rattle.object_state.specs.Faults.{Fits};
 
@@ -11,7 +11,8 @@ impl PlainStore {
     /// Carries a change out, from copies of what it brings.
     fn carry_out(&mut self, change: &Change) -> Result<(), AllocError>
         requires { Fits self.old.layout self.old.state change.now }
-        ensures { OnOk result (self.new ≡ record self.old { state = apply self.old.layout self.old.state change.now }) }
+        ensures ok { OnOk result (self.new ≡ record self.old { state = apply self.old.layout self.old.state change.now }) }
+        ensures err { OnErr result (self.new ≡ self.old) }
     {
         match change {
             Change::Create(new) => {
@@ -65,6 +66,7 @@ impl PlainStore {
         requires { Fits self.old.layout self.old.state change }
         ensures back { IfOk result (λ back. back ≡ inverse change) }
         ensures applied { OnOk result (self.new ≡ record self.old { state = apply self.old.layout self.old.state change }) }
+        ensures refused { OnErr result (self.new ≡ self.old) }
     {
         self.carry_out(&change)?;
         Ok(change.inverse())

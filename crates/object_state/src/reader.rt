@@ -89,7 +89,7 @@ pub trait StateReader {
         ensures { IfOk result (λ items. items ≡ (held self.now).state.variables) };
 
     /// The name of a live object.
-    fn name_of(&self, number: ObjNo) -> Option<&str>
+    final fn name_of(&self, number: ObjNo) -> Option<&str>
         ensures { option_copied result ≡ option_map (λ x. x.name) (object (held self.now).state number) }
     {
         match self.object(number) {

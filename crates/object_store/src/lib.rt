@@ -8,7 +8,6 @@ mod object_table;
 mod store;
 mod store_changes;
 mod store_looks;
-mod store_world;
 mod text_map;
 
 pub use store::Store;

@@ -1,6 +1,5 @@
 pub mod Evaluations
 pub mod Scenes
-pub mod Trees
 pub mod Nodes
 pub mod Walks
 pub mod Evaluation

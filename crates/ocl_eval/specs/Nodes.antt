@@ -35,7 +35,7 @@ use Rattle.ocl_eval.specs.declared.parts.Made.{Made}
 use Rattle.ocl_eval.specs.declared.walks.Visited.{Visited}
 use Rattle.ocl_eval.specs.Evaluations.{Evaluation, ◌>>=◌, ◌>>◌, pure, exhausted, spend, pay, walk}
 use Rattle.ocl_eval.specs.Scenes.{Scene, derived_body, look, query_called, within}
-use Rattle.ocl_eval.specs.Trees.{Layer, PartLayer}
+use Rattle.ocl_core.specs.Trees.{Layer, PartLayer}
 
 -- a walk that goes on to the end
 abbrev pub never : {S : Type 0} → S → Bool

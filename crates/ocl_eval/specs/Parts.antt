@@ -13,7 +13,8 @@ use Rattle.ocl_eval.specs.declared.stop.Stop.{Stop}
 use Rattle.ocl_eval.specs.Evaluation.{ev}
 use Rattle.ocl_eval.specs.Evaluations.{Evaluation, Gives}
 use Rattle.ocl_eval.specs.Scenes.{Scene}
-use Rattle.ocl_eval.specs.Trees.{IsSound, IsSoundProgram}
+use Rattle.ocl_core.specs.Trees.{IsSound}
+use Rattle.ocl_core.specs.Programs.{IsSoundProgram}
 
 module _ {V : Type 0} (now pre : V → Cell → Look) where
   abbrev pub scene : Setting V → Scene

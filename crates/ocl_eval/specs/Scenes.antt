@@ -8,9 +8,8 @@ use Rattle.class_model.specs.declared.object_model.ObjectModel.{ObjectModel}
 use Rattle.ocl_core.specs.declared.expression.Expr.{Expr}
 use Rattle.ocl_core.specs.declared.operators.When.{When}
 use Rattle.ocl_core.specs.declared.operators.When.TheVariants.{Now, Pre}
-use Rattle.ocl_core.specs.declared.program.OpBody.{OpBody}
-use Rattle.ocl_core.specs.declared.program.OpBody.TheVariants as body
 use Rattle.ocl_core.specs.declared.program.ProgramParts.{ProgramParts}
+use Rattle.ocl_core.specs.Programs.{query_of}
 use Rattle.ocl_eval.specs.Evaluations.{Evaluation, ◌>>=◌, ◌>>◌, pure, spend, read}
 
 pub record Scene : Type 0 where
@@ -43,12 +42,6 @@ begin_look when cell = spend 1 >> read_in when cell
 
 abbrev pub look : Scene → When → Cell → Evaluation Look
 look s when cell = begin_look when cell >> pure (seen s.now s.pre when cell)
-
--- the query of a body
-abbrev pub query_of : OpBody → Option Expr
-query_of body.None = None
-query_of (body.Query e) = Some e
-query_of (body.Soil statements) = None
 
 -- the query that an object of a class carries out where an operation is called
 abbrev pub query_called : ProgramParts → ℕ → ℕ → Option Expr

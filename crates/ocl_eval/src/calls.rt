@@ -4,7 +4,8 @@ ghost use Rattle.ocl_values.specs.Shape.{IsWellMade};
 ghost use Rattle.ocl_eval.specs.Parts.{Evaluates, ev_at, ev_in, scene};
 ghost use Rattle.ocl_eval.specs.Evaluations.{Gives};
 ghost use Rattle.ocl_eval.specs.Nodes.{body_value, derived, of_object, query};
-ghost use Rattle.ocl_eval.specs.Trees.{IsSound, IsSoundProgram};
+ghost use Rattle.ocl_core.specs.Trees.{IsSound};
+ghost use Rattle.ocl_core.specs.Programs.{IsSoundProgram};
 
 use crate::looks::within;
 use crate::node::Node;

@@ -3,7 +3,8 @@ ghost use Rattle.ocl_values.specs.Shape.{IsWellMade};
 ghost use Rattle.ocl_eval.specs.Evaluation.{IsWellMadeOutcome, eval_from, max_units, told};
 ghost use Rattle.ocl_eval.specs.Evaluations.{Gives};
 ghost use Rattle.ocl_eval.specs.Scenes.{scene_of};
-ghost use Rattle.ocl_eval.specs.Trees.{IsSound, IsSoundProgram};
+ghost use Rattle.ocl_core.specs.Trees.{IsSound};
+ghost use Rattle.ocl_core.specs.Programs.{IsSoundProgram};
 
 use crate::evaluator::value_of;
 use crate::states::TwoWorlds;

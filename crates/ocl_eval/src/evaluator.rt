@@ -2,7 +2,8 @@ ghost use Rattle.std.specs.Prelude.{◌≡◌, ◌+◌, IfOk, OnOk};
 ghost use Rattle.ocl_values.specs.Shape.{IsWellMade};
 ghost use Rattle.ocl_eval.specs.Parts.{ev_in};
 ghost use Rattle.ocl_eval.specs.Evaluations.{Gives};
-ghost use Rattle.ocl_eval.specs.Trees.{IsSound, IsSoundProgram};
+ghost use Rattle.ocl_core.specs.Trees.{IsSound};
+ghost use Rattle.ocl_core.specs.Programs.{IsSoundProgram};
 
 use crate::node::Node;
 use crate::{Meter, Setting, States, Stop, Values};

@@ -7,7 +7,8 @@ ghost use Rattle.ocl_eval.specs.Evaluations.{Gives};
 ghost use Rattle.ocl_eval.specs.Nodes.{gathered, iterate, iterate_step, iterator, maybe, over, over_source, visit, visits, unvisited};
 ghost use Rattle.ocl_eval.specs.Walks.{visits_pairs, visits_with};
 ghost use Rattle.ocl_operations.specs.Iterators.{bindings, may_have, takes_all};
-ghost use Rattle.ocl_eval.specs.Trees.{IsSound, IsSoundProgram};
+ghost use Rattle.ocl_core.specs.Trees.{IsSound};
+ghost use Rattle.ocl_core.specs.Programs.{IsSoundProgram};
 
 use crate::costs::pay;
 use crate::node::Node;

@@ -4,7 +4,8 @@ ghost use Rattle.ocl_values.specs.Shape.{IsWellMade};
 ghost use Rattle.ocl_eval.specs.Parts.{Evaluates, ev_at, scene};
 ghost use Rattle.ocl_eval.specs.Evaluations.{Gives};
 ghost use Rattle.ocl_eval.specs.Nodes.{node};
-ghost use Rattle.ocl_eval.specs.Trees.{IsSound, IsSoundProgram};
+ghost use Rattle.ocl_core.specs.Trees.{IsSound};
+ghost use Rattle.ocl_core.specs.Programs.{IsSoundProgram};
 
 use crate::costs::pay;
 use crate::node::Node;

@@ -3,7 +3,8 @@ ghost use Rattle.ocl_values.specs.Shape.{IsWellMade};
 ghost use Rattle.ocl_eval.specs.Parts.{Evaluates, ev_in};
 ghost use Rattle.ocl_eval.specs.Evaluations.{Gives};
 ghost use Rattle.ocl_eval.specs.Nodes.{add_part, make, parts};
-ghost use Rattle.ocl_eval.specs.Trees.{IsSound, IsSoundPart, IsSoundProgram};
+ghost use Rattle.ocl_core.specs.Trees.{IsSound, IsSoundPart};
+ghost use Rattle.ocl_core.specs.Programs.{IsSoundProgram};
 
 use crate::costs::pay;
 use crate::node::Node;

@@ -3,7 +3,8 @@ ghost use Rattle.ocl_values.specs.Shape.{IsWellMade};
 ghost use Rattle.ocl_eval.specs.Parts.{Evaluates, ev_in};
 ghost use Rattle.ocl_eval.specs.Evaluations.{Gives};
 ghost use Rattle.ocl_eval.specs.Nodes.{bind, binary, branch, choice, collection, paid, plain, right, to_set, unary, values};
-ghost use Rattle.ocl_eval.specs.Trees.{IsSound, IsSoundProgram};
+ghost use Rattle.ocl_core.specs.Trees.{IsSound};
+ghost use Rattle.ocl_core.specs.Programs.{IsSoundProgram};
 
 use crate::costs::pay;
 use crate::{Meter, Setting, States, Stop, Values};

@@ -1,7 +1,9 @@
 ghost use Rattle.std.specs.Prelude.{◌≡◌, MatchOption, ⊤};
 ghost use Rattle.std.specs.Option.{option_copied};
-ghost use Rattle.ocl_eval.specs.Scenes.{derived_body, query_called, query_of};
-ghost use Rattle.ocl_eval.specs.Trees.{IsSound, IsSoundProgram};
+ghost use Rattle.ocl_eval.specs.Scenes.{derived_body, query_called};
+ghost use Rattle.ocl_core.specs.Programs.{query_of};
+ghost use Rattle.ocl_core.specs.Trees.{IsSound};
+ghost use Rattle.ocl_core.specs.Programs.{IsSoundProgram};
 
 use class_model::{ClassNo, DerNo, OpNo};
 use ocl_core::{Expr, OpBody, ProgramParts};

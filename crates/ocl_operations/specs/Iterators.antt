@@ -7,7 +7,6 @@ use Rattle.ocl_values.specs.Logic.{and_table, entry, no, or_table, yes}
 use Rattle.ocl_values.specs.Order.{value_cmp}
 use Rattle.ocl_values.specs.Shape.{canon, some_invalid}
 use Rattle.ocl_values.specs.declared.value.Kind.{Kind}
-use Rattle.ocl_values.specs.declared.value.Kind.TheVariants.{Set, OrderedSet, Bag, Sequence}
 use Rattle.ocl_values.specs.declared.value.Value.{Value}
 use Rattle.ocl_values.specs.declared.value.Value.TheVariants as V
 use Rattle.ocl_values.specs.declared.value.Value.TheVariants.{Null, Invalid}
@@ -16,6 +15,7 @@ use Rattle.ocl_collections.specs.Sorting.{by_keys}
 use Rattle.ocl_collections.specs.declared.op.CollOp.TheVariants.{Flatten}
 use Rattle.ocl_core.specs.declared.operators.IterOp.{IterOp}
 use Rattle.ocl_core.specs.declared.operators.IterOp.TheVariants.{Select, Reject, Any, One, ForAll, Exists, IsUnique, CollectNested, Collect, SortedBy, Iterate}
+use Rattle.ocl_core.specs.Kinds.{collected_kind, sorted_kind}
 use Rattle.ocl_operations.specs.Operators.{is_undefined}
 
 abbrev pub is_true : Value → Bool
@@ -52,19 +52,6 @@ abbrev pub wants_start : IterOp → Bool
 wants_start Iterate = true
 wants_start _ = false
 
--- the kind of a collection of what the body has for each element, and that of the sorted elements
-abbrev pub collected : Kind → Kind
-collected Set = Bag
-collected OrderedSet = Sequence
-collected Bag = Bag
-collected Sequence = Sequence
-
-abbrev pub sorted : Kind → Kind
-sorted Set = OrderedSet
-sorted OrderedSet = OrderedSet
-sorted Bag = Sequence
-sorted Sequence = Sequence
-
 -- invalid unless all values of the body are true or false
 abbrev pub if_truths : List Value → Value → Value
 if_truths bs v = cond (list_all is_truth bs) v Invalid
@@ -82,9 +69,9 @@ iterator_value One kind xs bs = if_truths bs (V.Bool (nat_eq (count_by is_true b
 iterator_value ForAll kind xs bs = fold (entry and_table) yes bs
 iterator_value Exists kind xs bs = fold (entry or_table) no bs
 iterator_value IsUnique kind xs bs = cond (some_invalid bs) Invalid (V.Bool (all_differ value_cmp bs))
-iterator_value CollectNested kind xs bs = canon (collected kind) bs
-iterator_value Collect kind xs bs = coll_op_value Flatten (canon (collected kind) bs) []
-iterator_value SortedBy kind xs bs = cond (list_any is_undefined bs) Invalid (canon (sorted kind) (by_keys xs bs))
+iterator_value CollectNested kind xs bs = canon (collected_kind kind) bs
+iterator_value Collect kind xs bs = coll_op_value Flatten (canon (collected_kind kind) bs) []
+iterator_value SortedBy kind xs bs = cond (list_any is_undefined bs) Invalid (canon (sorted_kind kind) (by_keys xs bs))
 iterator_value Iterate kind xs bs = Invalid
 
 -- whether a row looks at every element

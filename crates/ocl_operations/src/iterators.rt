@@ -6,11 +6,11 @@ ghost use Rattle.ocl_values.specs.Order.{value_cmp};
 ghost use Rattle.ocl_values.specs.Shape.{canon, IsWellMade, some_invalid};
 ghost use Rattle.ocl_values.specs.declared.value.Value.TheVariants.{Coll, Null};
 ghost use Rattle.ocl_operations.specs.Operators.{is_undefined};
-ghost use Rattle.ocl_operations.specs.Iterators.{collected, ends_walk, first_true, if_truths, is_false, is_true, is_truth, iterator_value, may_have, sorted, takes_all, wants_start};
+ghost use Rattle.ocl_operations.specs.Iterators.{ends_walk, first_true, if_truths, is_false, is_true, is_truth, iterator_value, may_have, takes_all, wants_start};
 
 use crate::operators::is_undefined;
 use ocl_collections::{apply_owned, make, select, sort_by_keys};
-use ocl_core::{CollOp, IterOp, Kind, Value};
+use ocl_core::{CollOp, IterOp, Kind, Value, collected_kind, sorted_kind};
 use ocl_values::{and, or};
 use std::alloc::{AllocError, Global};
 use use_orders::all_differ;
@@ -61,30 +61,6 @@ pub fn wants_start(op: IterOp) -> bool
     ensures { result ≡ wants_start op }
 {
     matches!(op, IterOp::Iterate)
-}
-
-/// The kind of a collection of what the body has for each element.
-fn collected(kind: Kind) -> Kind
-    ensures { result ≡ collected kind }
-{
-    match kind {
-        Kind::Set => Kind::Bag,
-        Kind::OrderedSet => Kind::Sequence,
-        Kind::Bag => Kind::Bag,
-        Kind::Sequence => Kind::Sequence,
-    }
-}
-
-/// The kind of a sorted collection.
-fn sorted(kind: Kind) -> Kind
-    ensures { result ≡ sorted kind }
-{
-    match kind {
-        Kind::Set => Kind::OrderedSet,
-        Kind::OrderedSet => Kind::OrderedSet,
-        Kind::Bag => Kind::Sequence,
-        Kind::Sequence => Kind::Sequence,
-    }
 }
 
 fn are_truths(values: &[Value]) -> bool
@@ -208,7 +184,7 @@ fn sorted_by(
     if any_undefined(keys.as_slice()) {
         return Ok(Value::Invalid);
     }
-    make(alloc, sorted(kind), sort_by_keys(alloc, items, keys)?)
+    make(alloc, sorted_kind(kind), sort_by_keys(alloc, items, keys)?)
 }
 
 /// What an iterator but `iterate` gives of the elements of a collection and the values that the body
@@ -236,11 +212,11 @@ pub fn iterator_value(
         IterOp::ForAll => Ok(all_of(bodies.as_slice())),
         IterOp::Exists => Ok(any_of(bodies.as_slice())),
         IterOp::IsUnique => is_unique(alloc, bodies.as_slice()),
-        IterOp::CollectNested => make(alloc, collected(kind), bodies),
+        IterOp::CollectNested => make(alloc, collected_kind(kind), bodies),
         IterOp::Collect => apply_owned(
             alloc,
             CollOp::Flatten,
-            make(alloc, collected(kind), bodies)?,
+            make(alloc, collected_kind(kind), bodies)?,
             &[],
         ),
         IterOp::SortedBy => sorted_by(alloc, kind, items, bodies),

@@ -7,7 +7,6 @@ use Rattle.use_text.specs.declared.refusal.Refusal.{Refusal}
 use Rattle.use_text.specs.Codes.{code_of}
 use Rattle.use_text.specs.Refusals.{refusal_at}
 use Rattle.ocl_values.specs.declared.value.Kind.{Kind}
-use Rattle.ocl_values.specs.declared.value.Kind.TheVariants.{Set, OrderedSet, Bag, Sequence}
 use Rattle.class_model.specs.declared.object_model.ObjectModel.{ObjectModel}
 use Rattle.class_model.specs.declared.types.OclType.{OclType}
 use Rattle.class_model.specs.declared.types.OclType.TheVariants as T
@@ -15,6 +14,7 @@ use Rattle.class_model.specs.Conformance.{conforms}
 use Rattle.ocl_core.specs.declared.expression.Expr.TheVariants as E
 use Rattle.ocl_core.specs.declared.operators.IterOp.{IterOp}
 use Rattle.ocl_core.specs.declared.operators.IterOp.TheVariants as I
+use Rattle.ocl_core.specs.Kinds.{collected_kind, sorted_kind}
 use Rattle.ocl_rules.specs.declared.typed.Typed.{Typed}
 use Rattle.ocl_rules.specs.CollectionOperations.{innermost}
 use Rattle.ocl_rules.specs.Forms.{fits_declared}
@@ -33,20 +33,6 @@ has_condition I.CollectNested = false
 has_condition I.Collect = false
 has_condition I.SortedBy = false
 has_condition I.Iterate = false
-
--- the kind of what is collected of a collection
-abbrev pub collected_kind : Kind → Kind
-collected_kind Set = Bag
-collected_kind OrderedSet = Sequence
-collected_kind Bag = Bag
-collected_kind Sequence = Sequence
-
--- the kind of a collection that is sorted
-abbrev pub sorted_kind : Kind → Kind
-sorted_kind Set = OrderedSet
-sorted_kind OrderedSet = OrderedSet
-sorted_kind Bag = Sequence
-sorted_kind Sequence = Sequence
 
 -- what an iterator gives over a collection of this kind with such elements, where its body has this type
 abbrev pub iterator_type : IterOp → Kind → OclType → OclType → OclType

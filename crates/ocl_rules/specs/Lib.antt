@@ -2,7 +2,9 @@ pub mod Typings
 pub mod Operators
 pub mod Forms
 pub mod Arguments
+pub mod ValueForms
 pub mod ValueOperations
 pub mod Properties
+pub mod CollectionForms
 pub mod CollectionOperations
 pub mod Iterators

@@ -25,28 +25,32 @@ impl From<AllocError> for TypeFault {
     }
 }
 
+fn refusal(family: Family, number: u8, place: Place) -> Refusal
+    ensures { result ≡ refusal_at (code_of family number) place }
+{
+    Refusal {
+        code: Code { family, number },
+        place,
+    }
+}
+
+/// The refusal of a rule of types that is broken at a place.
+pub(crate) fn type_refusal(number: u8, place: Place) -> Refusal
+    ensures { result ≡ refusal_at (code_of T number) place }
+{
+    refusal(Family::T, number, place)
+}
+
 /// A rule of names that is broken at a place.
 pub fn breaks_n(number: u8, place: Place) -> TypeFault
     ensures { result ≡ Refused (refusal_at (code_of N number) place) }
 {
-    TypeFault::Refused(Refusal {
-        code: Code {
-            family: Family::N,
-            number,
-        },
-        place,
-    })
+    TypeFault::Refused(refusal(Family::N, number, place))
 }
 
 /// A rule of types that is broken at a place.
 pub fn breaks_t(number: u8, place: Place) -> TypeFault
     ensures { result ≡ Refused (refusal_at (code_of T number) place) }
 {
-    TypeFault::Refused(Refusal {
-        code: Code {
-            family: Family::T,
-            number,
-        },
-        place,
-    })
+    TypeFault::Refused(type_refusal(number, place))
 }

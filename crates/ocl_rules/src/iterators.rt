@@ -1,20 +1,18 @@
 ghost use Rattle.std.specs.Prelude.{◌≡◌, IfOk, None, Some};
 ghost use Rattle.ocl_core.specs.declared.operators.IterOp.TheVariants.{Iterate};
-ghost use Rattle.ocl_rules.specs.Iterators.{collected_kind, fit_variables, has_condition, iterate_refusal, iterate_rule, iterator_refusal, iterator_rule, iterator_type, sorted_kind};
-ghost use Rattle.use_text.specs.declared.code.Family.TheVariants.{T};
-ghost use Rattle.use_text.specs.Codes.{code_of};
-ghost use Rattle.use_text.specs.Refusals.{refusal_at};
+ghost use Rattle.ocl_rules.specs.Iterators.{fit_variables, has_condition, iterate_refusal, iterate_rule, iterator_refusal, iterator_rule, iterator_type};
 ghost use Rattle.ocl_rules.specs.Typings.{Tells};
 
 use crate::collection_operations::innermost;
+use crate::fault::type_refusal;
 use crate::forms::fits_declared;
 use crate::{TypeFault, Typed};
 use class_model::{ClassModel, OclType};
-use ocl_core::{Expr, IterOp};
+use ocl_core::{Expr, IterOp, collected_kind, sorted_kind};
 use ocl_values::Kind;
 use std::alloc::{AllocError, Global};
 use use_lists::Boxed;
-use use_text::{Code, Family, Place, Refusal};
+use use_text::{Place, Refusal};
 
 fn has_condition(op: IterOp) -> bool
     ensures { result ≡ has_condition op }
@@ -28,25 +26,6 @@ fn has_condition(op: IterOp) -> bool
             | IterOp::ForAll
             | IterOp::Exists
     )
-}
-
-/// The kind of what is collected of a collection.
-pub fn collected_kind(kind: Kind) -> Kind
-    ensures { result ≡ collected_kind kind }
-{
-    match kind {
-        Kind::Set | Kind::Bag => Kind::Bag,
-        Kind::OrderedSet | Kind::Sequence => Kind::Sequence,
-    }
-}
-
-fn sorted_kind(kind: Kind) -> Kind
-    ensures { result ≡ sorted_kind kind }
-{
-    match kind {
-        Kind::Set | Kind::OrderedSet => Kind::OrderedSet,
-        Kind::Bag | Kind::Sequence => Kind::Sequence,
-    }
 }
 
 /// What an iterator gives over a collection of this kind with such elements, where its body has this
@@ -106,18 +85,6 @@ fn accumulation(alloc: Global, source: Expr, start: Expr, body: Expr) -> Result<
     Ok(Expr::Iter(IterOp::Iterate, source, 1, Some(start), body))
 }
 
-fn broken(number: u8, place: Place) -> Option<Refusal>
-    ensures { result ≡ Some (refusal_at (code_of T number) place) }
-{
-    Some(Refusal {
-        code: Code {
-            family: Family::T,
-            number,
-        },
-        place,
-    })
-}
-
 fn iterator_refusal(
     model: &ClassModel,
     place: Place,
@@ -130,10 +97,10 @@ fn iterator_refusal(
     ensures { result ≡ iterator_refusal model.now place op element.now variables.now body_place body.now }
 {
     if !fit_variables(model, element, variables) {
-        return broken(3, place);
+        return Some(type_refusal(3, place));
     }
     if has_condition(op) && !model.conforms(body, &OclType::Bool) {
-        return broken(4, body_place);
+        return Some(type_refusal(4, body_place));
     }
     None
 }
@@ -200,13 +167,13 @@ fn iterate_refusal(
     ensures { result ≡ iterate_refusal model.now place element.now variable.now of_type.now start_place body_place start.now body.now }
 {
     if !fits_declared(model, element, variable) {
-        return broken(3, place);
+        return Some(type_refusal(3, place));
     }
     if !model.conforms(start, of_type) {
-        return broken(5, start_place);
+        return Some(type_refusal(5, start_place));
     }
     if !model.conforms(body, of_type) {
-        return broken(5, body_place);
+        return Some(type_refusal(5, body_place));
     }
     None
 }

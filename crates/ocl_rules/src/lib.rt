@@ -7,6 +7,7 @@ mod collection_table;
 mod fault;
 mod forms;
 mod iterators;
+mod laws;
 mod operators;
 mod properties;
 mod typed;
@@ -19,7 +20,8 @@ pub use collection_table::{
 };
 pub use fault::{TypeFault, breaks_n, breaks_t};
 pub use forms::{collection_rule, if_rule, let_rule, level_rule, levels};
-pub use iterators::{collected_kind, iterate_rule, iterator_rule};
+pub use iterators::{iterate_rule, iterator_rule};
+pub use laws::{collection_operations_are_stated, value_operations_are_stated};
 pub use operators::{binary_rule, unary_rule};
 pub use properties::{
     Feature, has_property, is_new_rule, operation_of_type, property_rule, query_rule,

@@ -27,7 +27,7 @@ fn add_looks<S: StateReader>(
 }
 
 /// What is seen at every cell of a few objects and of all classes, and of one that is none.
-pub fn looks<S: StateReader>(alloc: Global, store: &S) -> Result<Vec<Look>, AllocError> {
+pub(crate) fn looks<S: StateReader>(alloc: Global, store: &S) -> Result<Vec<Look>, AllocError> {
     let mut looks = Vec::new(alloc);
     'objects: for object in 0..8u32 {
         add_looks(alloc, store, object, &mut looks)?;
@@ -62,7 +62,7 @@ fn names() -> [&'static str; 6] {
 
 /// Whether both stores know the same names.
 fn names_same(plain: &PlainStore, store: &Store) -> bool {
-    let mut same = true;
+    let mut same = plain.name_of(1) == store.name_of(1);
     'names: for name in names() {
         same = same && plain.object_named(name) == store.object_named(name);
         same = same && plain.variable(name) == store.variable(name);
@@ -71,7 +71,7 @@ fn names_same(plain: &PlainStore, store: &Store) -> bool {
 }
 
 /// Whether nothing tells one store from the other.
-pub fn all_same(alloc: Global, plain: &PlainStore, store: &Store) -> Result<bool, AllocError> {
+fn all_same(alloc: Global, plain: &PlainStore, store: &Store) -> Result<bool, AllocError> {
     Ok(
         counts_same(plain, store)
             && names_same(plain, store)

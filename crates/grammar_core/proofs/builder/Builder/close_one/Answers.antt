@@ -1,4 +1,4 @@
-use Rattle.std.proofs.Common.{ℕ, ◌≡◌, ◌+◌, ◌++◌, ◌∷◌, [], ◌-◌, List, length, take, drop, min, slice_set, Result, Ok, sym, ap, ◌∙◌, subst, arith}
+use Rattle.std.proofs.Common.{ℕ, ◌≡◌, ◌+◌, ◌++◌, ◌∷◌, [], ◌-◌, List, length, take, drop, slice_set, Result, Ok, sym, ap, ◌∙◌, subst, arith}
 use Rattle.grammar_core.specs.declared.fault.ParseFault.{ParseFault}
 use Rattle.grammar_core.specs.declared.node.Node.{Node}
 use Rattle.grammar_core.specs.declared.node.Node.TheVariants.{Rule}

@@ -1,16 +1,17 @@
-use crate::Store;
+use crate::looks::{class_of, items_at, value_of};
+use crate::{StateReader, World};
 use class_model::{AssocNo, AttrNo, ClassNo, End};
-use object_state::{StateReader, World, class_of, items_at, value_of};
 use ocl_values::{ObjNo, Value};
 use std::alloc::{AllocError, Global};
 use std::sync::ledger::Ledger;
 use use_lists::Items;
 use use_steps::Steps;
 
-impl<L: Ledger> World<L> for Store {
+/// An evaluation looks at the state that a store holds.
+impl<L: Ledger, S: StateReader> World<L> for S {
     ghost use Rattle.object_state.specs.Looks.{look};
 
-    ghost picture = { λ s cell. look s.layout s.state cell };
+    ghost picture = { λ s cell. look (S.held s).layout (S.held s).state cell };
 
     fn kind(&self, object: ObjNo, steps: &mut Steps<L>) -> Option<ClassNo> {
         steps.tick();
