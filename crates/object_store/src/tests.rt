@@ -1,16 +1,48 @@
 use super::*;
 
 mod faults;
-mod inverses;
 mod samples;
 mod walks;
-mod worlds;
 
-use object_state::{StateReader, StoreFault, creation, linking};
+use object_state::{AssocLayout, ClassLayout, Layout, StateReader, StoreFault, creation, linking};
 use ocl_values::Text;
-use samples::stores;
 use std::alloc::{AllocError, Global};
 use std::test::Fail;
+use use_lists::Items;
+
+fn class(
+    alloc: Global,
+    is_abstract: bool,
+    attrs: &[u32],
+    ancestors: &[u32],
+) -> Result<ClassLayout, AllocError> {
+    Ok(ClassLayout {
+        is_abstract,
+        attrs: Items::from_slice(alloc, attrs)?,
+        ancestors: Items::from_slice(alloc, ancestors)?,
+    })
+}
+
+/// Classes A with two attributes, B and C below A, D below B and C with one attribute more, and an
+/// abstract E; associations from A to B and from A to A.
+fn layout(alloc: Global) -> Result<Layout, AllocError> {
+    let mut classes = Items::new(alloc);
+    classes.push(class(alloc, false, &[0, 1], &[0])?)?;
+    classes.push(class(alloc, false, &[0, 1], &[0, 1])?)?;
+    classes.push(class(alloc, false, &[0, 1], &[0, 2])?)?;
+    classes.push(class(alloc, false, &[0, 1, 2], &[0, 1, 2, 3])?)?;
+    classes.push(class(alloc, true, &[], &[4])?)?;
+    let mut assocs = Items::new(alloc);
+    assocs.push(AssocLayout {
+        first: 0,
+        second: 1,
+    })?;
+    assocs.push(AssocLayout {
+        first: 0,
+        second: 0,
+    })?;
+    Ok(Layout { classes, assocs })
+}
 
 /// Creates an object named by a number where that fits, and else tells the first fault.
 fn create_one(
@@ -79,7 +111,7 @@ fn link_many(store: &mut Store, first: u32, count: u32) -> Result<Option<StoreFa
 #[test]
 fn ten_thousand_objects_and_fifty_thousand_links_are_the_most(rt: HostRuntime) -> Result<(), Fail> {
     let alloc = rt.alloc();
-    let (_, mut store) = stores(alloc)?;
+    let mut store = Store::new(alloc, layout(alloc)?);
     assert_eq!(rt; create_many(alloc, &mut store, 10_000)?, None);
     assert_eq!(rt;
         create_one(alloc, &mut store, 10_000, 0)?,
@@ -96,7 +128,7 @@ fn ten_thousand_objects_and_fifty_thousand_links_are_the_most(rt: HostRuntime) -
 #[test]
 fn a_new_store_is_empty(rt: HostRuntime) -> Result<(), Fail> {
     let alloc = rt.alloc();
-    let (_, store) = stores(alloc)?;
+    let store = Store::new(alloc, layout(alloc)?);
     assert_eq!(rt; store.counters(), (1, 1));
     assert_eq!(rt; store.weight(), 0);
     assert_eq!(rt; store.object_named("a"), None);

@@ -72,7 +72,6 @@ fn assocs(alloc: Global) -> Result<Items<AssocLayout>, AllocError>
 pub fn stores(alloc: Global) -> Result<(PlainStore, Store), AllocError>
     ensures same { IfOk result (λ both. both.0 ≡ both.1) }
     ensures state { IfOk result (λ both. both.0.state ≡ empty) }
-    ensures classes { IfOk result (λ both. length both.0.layout.classes ≡ 5) }
     ensures assocs { IfOk result (λ both. length both.0.layout.assocs ≡ 2) }
 {
     let plain = Layout {
@@ -99,8 +98,6 @@ pub enum Move {
     LinkLast(u32, u32, u32),
     /// Another integer as an attribute of an object.
     Set(u32, u32, i128),
-    /// A text of so many letters as an attribute of an object.
-    Write(u32, u32, usize),
     /// A variable with an integer.
     Bind(&'static str, i128),
     /// A variable with a text of so many letters.
@@ -268,45 +265,27 @@ fn had(plain: &PlainStore, object: u32, attr: u32) -> Option<Value>
     }
 }
 
-/// The same value twice.
-fn had_twice(plain: &PlainStore, object: u32, attr: u32) -> Option<(Value, Value)>
-    ensures equal { IfSome result (λ both. both.1 ≡ both.0) }
-    ensures agrees { IfSome result (λ both. OldPartsAgree plain.now.layout plain.now.state (SetSlot object attr both.0 Null)) }
+/// The same setting for both stores.
+fn set(plain: &PlainStore, object: u32, attr: u32, number: i128) -> Option<(Change, Change)>
+    ensures equal { MatchOption result (Unit {0}) (λ both. both.1 ≡ both.0) }
+    ensures agrees { MatchOption result (Unit {0}) (λ both. OldPartsAgree plain.now.layout plain.now.state both.0) }
 {
     let first = had(plain, object, attr)?;
     let second = known(&first)?;
-    Some((first, second))
-}
-
-/// The same setting for both stores.
-fn set(
-    alloc: Global,
-    plain: &PlainStore,
-    object: u32,
-    attr: u32,
-    value: &Value,
-) -> Result<Option<(Change, Change)>, AllocError>
-    requires { IsWellMade value.now }
-    ensures equal { IfOk result (λ o. MatchOption o (Unit {0}) (λ both. both.1 ≡ both.0)) }
-    ensures agrees { IfOk result (λ o. MatchOption o (Unit {0}) (λ both. OldPartsAgree plain.now.layout plain.now.state both.0)) }
-{
-    match had_twice(plain, object, attr) {
-        None => Ok(None),
-        Some((first, second)) => Ok(Some((
-            Change::SetSlot {
-                object,
-                attr,
-                old: first,
-                new: value.try_copy(alloc)?,
-            },
-            Change::SetSlot {
-                object,
-                attr,
-                old: second,
-                new: value.try_copy(alloc)?,
-            },
-        ))),
-    }
+    Some((
+        Change::SetSlot {
+            object,
+            attr,
+            old: first,
+            new: Value::Int(number),
+        },
+        Change::SetSlot {
+            object,
+            attr,
+            old: second,
+            new: Value::Int(number),
+        },
+    ))
 }
 
 /// A copy of a variable, where there is one.
@@ -380,14 +359,6 @@ fn unbound(
     }
 }
 
-/// A text of so many letters.
-fn letters(alloc: Global, length: usize) -> Result<Value, AllocError>
-    ensures { IfOk result (λ v. IsWellMade v) }
-{
-    let text = Text::from_string("x".repeat(alloc, length)?);
-    Ok(Value::Str(text))
-}
-
 /// The same change for both stores, as a test asks.
 pub fn proposed(
     alloc: Global,
@@ -408,12 +379,12 @@ pub fn proposed(
         Move::LinkLast(assoc, first, second) => {
             Ok(last(plain, linked(plain, store, assoc, (first, second))))
         }
-        Move::Set(object, attr, number) => set(alloc, plain, object, attr, &Value::Int(number)),
-        Move::Write(object, attr, length) => {
-            set(alloc, plain, object, attr, &letters(alloc, length)?)
-        }
+        Move::Set(object, attr, number) => Ok(set(plain, object, attr, number)),
         Move::Bind(name, number) => bound(alloc, plain, name, &Value::Int(number)),
-        Move::Fill(name, length) => bound(alloc, plain, name, &letters(alloc, length)?),
+        Move::Fill(name, length) => {
+            let text = Text::from_string("x".repeat(alloc, length)?);
+            bound(alloc, plain, name, &Value::Str(text))
+        }
         Move::Unbind(name) => unbound(alloc, plain, name),
     }
 }
