@@ -11,3 +11,4 @@ pub mod Single
 pub mod Different
 pub mod Skipped
 pub mod Signatures
+pub mod Grouped

@@ -36,7 +36,7 @@ or_known (Some q) p e = refl
 pub same_is : (a b : List ℕ) → same_text a b ≡ true → a ≡ b
 same_is a b e = slice_cmp-IsAntisymmetric nat_cmp-IsAntisymmetric a b (equal (slice_cmp nat_cmp a b) (sym (texts_ties a b) ∙ e))
 
-abbrev text_cmp : List ℕ → List ℕ → Ordering
+abbrev pub text_cmp : List ℕ → List ℕ → Ordering
 text_cmp = slice_cmp nat_cmp
 
 kept_by : (o : Option ℕ) (place : ℕ) (b : Bool) → (b ≡ true → is_some o ≡ true) → o ≡ option_or o (cond b (Some place) None)

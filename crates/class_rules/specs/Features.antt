@@ -12,14 +12,18 @@ use Rattle.class_decls.specs.Texts.{has_text, repeats, same_text}
 abbrev pub attrs_of : List ClassDecl → List (List ℕ)
 attrs_of classes = flat_map (λ c. map (λ a. a.name.text) c.attrs) classes
 
--- the roles at the other ends of an association for what takes part in it as a class
-abbrev pub roles_in : AssocDecl → ClassDecl → List (List ℕ)
-roles_in a c =
-    (if same_text a.first.class.text c.name.text then a.second.role.text ∷ [] else [])
-    ++ (if same_text a.second.class.text c.name.text then a.first.role.text ∷ [] else [])
+-- the roles at the other ends of an association for what takes part in it as the class of a name
+abbrev pub roles_at : AssocDecl → List ℕ → List (List ℕ)
+roles_at a name =
+    (if same_text a.first.class.text name then a.second.role.text ∷ [] else [])
+    ++ (if same_text a.second.class.text name then a.first.role.text ∷ [] else [])
+
+-- the roles at the other ends of all associations for the class of a name
+abbrev pub roles_of_class : List AssocDecl → List ℕ → List (List ℕ)
+roles_of_class assocs name = flat_map (λ a. roles_at a name) assocs
 
 abbrev pub roles_of : List AssocDecl → List ClassDecl → List (List ℕ)
-roles_of assocs classes = flat_map (λ c. flat_map (λ a. roles_in a c) assocs) classes
+roles_of assocs classes = flat_map (λ c. roles_of_class assocs c.name.text) classes
 
 -- whether two lists have a text in common
 abbrev pub meet : List (List ℕ) → List (List ℕ) → Bool

@@ -1,9 +1,13 @@
+pub mod Groups
 pub mod Numbering
 pub mod Queue
 pub mod Cycles
 pub mod Ancestors
 pub mod Features
 pub mod Operations
+pub mod Declaring
+pub mod Declared
+pub mod Index
 pub mod Agreeing
 pub mod ClassRules
 pub mod WellFormed

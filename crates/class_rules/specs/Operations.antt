@@ -1,6 +1,6 @@
 -- Operations that override others.
-use Rattle.std.specs.Prelude.{ℕ, Bool, true, false, not, ◌&&◌, ◌||◌, if◌then◌else◌, List, Option, Some, None, slice_get, count_by}
-use Rattle.std.specs.List.{filter_map, list_all, list_any}
+use Rattle.std.specs.Prelude.{ℕ, Bool, true, false, not, ◌&&◌, ◌||◌, if◌then◌else◌, List, [], ◌∷◌, Option, Some, None, slice_get, count_by, filter}
+use Rattle.std.specs.List.{filter_map, flat_map, list_all, list_any}
 use Rattle.std.specs.Option.{option_and_then, option_eq, option_map_or}
 use Rattle.std.specs.Cmp.Lexicographic.{pointwise}
 use Rattle.ocl_values.specs.contracts.value.KindPartialEq.TheImpl.{ghosts as kind_ghosts}
@@ -38,6 +38,10 @@ abbrev pub clash : Clash → OpDecl → OpDecl → Bool
 clash r.Signature op other = not (same_signature op other)
 clash r.Bodies op other = mixes op.body other.body
 
+-- the operations of a name
+abbrev pub ops_named : List ℕ → List OpDecl → List OpDecl
+ops_named text ops = filter (λ op. same_text op.name.text text) ops
+
 -- whether one of some classes declares an operation of its name with which it clashes
 abbrev pub clashes_above : Clash → List ClassDecl → OpDecl → Bool
 clashes_above kind classes op = list_any (λ c. list_any (λ other. same_text other.name.text op.name.text && clash kind op other) c.ops) classes
@@ -65,6 +69,10 @@ is_contract_of ds text c = option_map_or (λ op. same_text (op_text ds.context_h
 -- the contracts of an operation, those of the declarations that it overrides included
 abbrev pub contract_count : Decls → List ClassDecl → OpDecl → ℕ
 contract_count ds classes op = count_by (λ c. is_contract_of ds op.name.text c && list_any (λ d. same_text d.name.text c.class.text) classes) ds.conds
+
+-- the classes in whose contexts the contracts of the operations of a name stand
+abbrev pub contract_classes : Decls → List ℕ → List (List ℕ)
+contract_classes ds text = flat_map (λ c. if is_contract_of ds text c then c.class.text ∷ [] else []) ds.conds
 
 -- whether the class of a name declares an operation of this head's name and types
 abbrev pub declares_head : Decls → List ℕ → OpDecl → Bool

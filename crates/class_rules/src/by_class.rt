@@ -8,6 +8,7 @@ use crate::clash::{Clash, first_clash};
 use crate::contracts::first_too_many;
 use crate::features::{has_too_many_features, meets_attribute_twice, role_clashes};
 use crate::hierarchy::Hierarchy;
+use crate::index::Index;
 use crate::overriding::is_ambiguous;
 use crate::unbroken::is_unbroken;
 use class_decls::ClassDecl;
@@ -54,20 +55,21 @@ fn clash_above(
         return Ok(None);
     }
     let above = hierarchy.properly_above(alloc, place)?;
-    Ok(first_clash(kind, class, above.as_slice()))
+    let found = first_clash(alloc, kind, class, above.as_slice())?;
+    Ok(found)
 }
 
 /// Where a class that stands at a place breaks a rule.
 fn broken_at(
     alloc: Global,
-    hierarchy: &Hierarchy<'_>,
+    index: &Index<'_>,
     rule: ClassRule,
     place: usize,
     class: &ClassDecl,
 ) -> Result<Option<Place>, AllocError>
-    ensures { IfOk result (λ found. found ≡ broken_by rule hierarchy.now place class.now) }
+    ensures { IfOk result (λ found. found ≡ broken_by rule index.now place class.now) }
 {
-    let decls = hierarchy.decls();
+    let hierarchy = index.hierarchy();
     match rule {
         ClassRule::AttributeMetTwice => {
             let above = hierarchy.above(alloc, place)?;
@@ -76,7 +78,7 @@ fn broken_at(
         }
         ClassRule::RoleClashes => {
             let above = hierarchy.above(alloc, place)?;
-            let broken = role_clashes(alloc, decls.assocs.as_slice(), above.as_slice())?;
+            let broken = role_clashes(alloc, index, above.as_slice())?;
             Ok(named_if(broken, class))
         }
         ClassRule::SignatureChanges => {
@@ -95,21 +97,22 @@ fn broken_at(
         }
         ClassRule::TooManyContracts => {
             let above = hierarchy.above(alloc, place)?;
-            Ok(first_too_many(decls, class, above.as_slice()))
+            let found = first_too_many(alloc, index, class, above.as_slice())?;
+            Ok(found)
         }
     }
 }
 
 fn first_broken_among(
     alloc: Global,
-    hierarchy: &Hierarchy<'_>,
+    index: &Index<'_>,
     rule: ClassRule,
     classes: &[ClassDecl],
 ) -> Result<Option<Place>, AllocError>
-    ensures { IfOk result (λ found. found ≡ first_numbered (broken_by rule hierarchy.now) 0 classes.now) }
+    ensures { IfOk result (λ found. found ≡ first_numbered (broken_by rule index.now) 0 classes.now) }
 {
     'classes: for (i, class) in classes.iter().enumerate() {
-        let found = broken_at(alloc, hierarchy, rule, i, class)?;
+        let found = broken_at(alloc, index, rule, i, class)?;
         if found.is_some() {
             return Ok(found);
         }
@@ -120,15 +123,16 @@ fn first_broken_among(
 /// The first place at which a class breaks a rule.
 pub(crate) fn first_broken(
     alloc: Global,
-    hierarchy: &Hierarchy<'_>,
+    index: &Index<'_>,
     rule: ClassRule,
 ) -> Result<Option<Place>, AllocError>
-    ensures { IfOk result (λ found. found ≡ first_broken rule hierarchy.now) }
+    ensures { IfOk result (λ found. found ≡ first_broken rule index.now) }
 {
+    let hierarchy = index.hierarchy();
     let unbroken = is_unbroken(alloc, hierarchy, rule)?;
     if unbroken {
         return Ok(None);
     }
     let classes = hierarchy.decls().classes.as_slice();
-    first_broken_among(alloc, hierarchy, rule, classes)
+    first_broken_among(alloc, index, rule, classes)
 }

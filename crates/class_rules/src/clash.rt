@@ -1,12 +1,16 @@
-ghost use Rattle.std.specs.Prelude.{◌≡◌, ◌&&◌, map};
+ghost use Rattle.std.specs.Prelude.{◌≡◌, ◌&&◌, ◌++◌, List, ℕ, IfOk, OnOk, map};
 ghost use Rattle.std.specs.Cmp.Lexicographic.{pointwise};
-ghost use Rattle.std.specs.List.{list_any};
+ghost use Rattle.std.specs.List.{flat_map, list_any};
 ghost use Rattle.std.specs.Option.{option_eq};
-ghost use Rattle.class_rules.specs.Operations.{clash, clashes_above, mixes, same_signature, same_type};
+ghost use Rattle.class_rules.specs.Operations.{clash, clashes_above, mixes, ops_named, same_signature, same_type};
 ghost use Rattle.class_rules.specs.ClassRules.{first_op};
+ghost use Rattle.class_rules.specs.Groups.{listed};
 ghost use Rattle.class_decls.specs.Texts.{same_text};
 
+use crate::groups::{Groups, add_to, of_name};
 use class_decls::{BodyKind, ClassDecl, OpDecl, ParamDecl, TypeDecl};
+use std::alloc::{AllocError, Global};
+use std::collections::BTreeMap;
 use use_text::Place;
 
 /// How an operation may clash with one that it overrides.
@@ -73,33 +77,61 @@ fn clashes(kind: Clash, op: &OpDecl, other: &OpDecl) -> bool
     }
 }
 
-fn clashes_among(kind: Clash, op: &OpDecl, ops: &[OpDecl]) -> bool
-    ensures { result ≡ list_any (λ other. same_text other.name.text op.now.name.text && clash kind op.now other) ops.now }
+/// Whether an operation clashes with one of some others.
+fn clashes_with(kind: Clash, op: &OpDecl, others: &[&OpDecl]) -> bool
+    ensures { result ≡ list_any (λ other. clash kind op.now other.now) others.now }
 {
-    ops.iter().any(|other| other.name.text == op.name.text && clashes(kind, op, other))
+    others.iter().any(|other| clashes(kind, op, other))
 }
 
-fn clashes_in(kind: Clash, op: &OpDecl, classes: &[&ClassDecl]) -> bool
-    ensures { result ≡ list_any (λ c. list_any (λ other. same_text other.name.text op.now.name.text && clash kind op.now other) c.now.ops) classes.now }
+/// Adds operations by name.
+pub(crate) fn add_ops<'a>(
+    alloc: Global,
+    groups: &mut Groups<&'a OpDecl>,
+    ops: &'a [OpDecl],
+) -> Result<(), AllocError>
+    ensures { OnOk result ((t : List ℕ) → map (λ op. op.now) (listed groups.new t) ≡ map (λ op. op.now) (listed groups.old t) ++ ops_named t ops.now) }
 {
-    classes
-        .iter()
-        .any(|class| clashes_among(kind, op, class.ops.as_slice()))
+    'ops: for op in ops {
+        add_to(alloc, groups, &op.name.text, op)?;
+    }
+    Ok(())
 }
 
-fn clashes_above(kind: Clash, op: &OpDecl, classes: &[&ClassDecl]) -> bool
-    ensures { result ≡ clashes_above kind (map (λ c. c.now) classes.now) op.now }
+/// The operations that classes declare, by name.
+fn ops_by_name<'a>(
+    alloc: Global,
+    classes: &[&'a ClassDecl],
+) -> Result<Groups<&'a OpDecl>, AllocError>
+    ensures { IfOk result (λ groups. (t : List ℕ) → map (λ op. op.now) (listed groups t) ≡ flat_map (λ c. ops_named t c.now.ops) classes.now) }
 {
-    clashes_in(kind, op, classes)
+    let mut groups = BTreeMap::new(alloc);
+    'classes: for class in classes {
+        add_ops(alloc, &mut groups, class.ops.as_slice())?;
+    }
+    Ok(groups)
+}
+
+/// The first operation of a class that clashes with one of those of its name.
+fn first_clash_among(kind: Clash, groups: &Groups<&OpDecl>, class: &ClassDecl) -> Option<Place>
+    ensures { result ≡ first_op (λ op. list_any (λ other. clash kind op other.now) (listed groups.now op.name.text)) class.now }
+{
+    let ops = class.ops.as_slice();
+    ops.iter()
+        .find(|op| clashes_with(kind, op, of_name(groups, &op.name.text)))
+        .map(|op| op.name.place)
 }
 
 /// The first operation of a class that clashes with one that it overrides, given the ancestors of
 /// the class.
-pub(crate) fn first_clash(kind: Clash, class: &ClassDecl, classes: &[&ClassDecl]) -> Option<Place>
-    ensures { result ≡ first_op (clashes_above kind (map (λ c. c.now) classes.now)) class.now }
+pub(crate) fn first_clash(
+    alloc: Global,
+    kind: Clash,
+    class: &ClassDecl,
+    above: &[&ClassDecl],
+) -> Result<Option<Place>, AllocError>
+    ensures { IfOk result (λ place. place ≡ first_op (clashes_above kind (map (λ c. c.now) above.now)) class.now) }
 {
-    let ops = class.ops.as_slice();
-    ops.iter()
-        .find(|op| clashes_above(kind, op, classes))
-        .map(|op| op.name.place)
+    let groups = ops_by_name(alloc, above)?;
+    Ok(first_clash_among(kind, &groups, class))
 }

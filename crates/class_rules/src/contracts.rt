@@ -1,11 +1,12 @@
-ghost use Rattle.std.specs.Prelude.{◌≡◌, ◌&&◌, ◌||◌, count_by, length, map, nat_lt};
-ghost use Rattle.std.specs.List.{list_any};
+ghost use Rattle.std.specs.Prelude.{◌≡◌, ◌||◌, List, ℕ, IfOk, count_by, length, map, nat_lt};
 ghost use Rattle.class_rules.specs.ClassRules.{first_op};
-ghost use Rattle.class_rules.specs.Operations.{contract_count, is_contract_of};
-ghost use Rattle.class_decls.specs.Texts.{same_text};
+ghost use Rattle.class_rules.specs.Operations.{contract_classes, contract_count};
+ghost use Rattle.class_decls.specs.Texts.{has_text};
 
-use class_decls::{ClassDecl, CondDecl, CondKind, Decls, OpDecl, op_text};
+use crate::index::Index;
+use class_decls::{ClassDecl, NameSet, OpDecl};
 use ocl_values::Text;
+use std::alloc::{AllocError, Global};
 use use_text::Place;
 
 /// The most parameters of an operation.
@@ -14,64 +15,54 @@ const MOST_PARAMS: usize = 16;
 /// The most contracts of an operation.
 const MOST_CONTRACTS: usize = 64;
 
-/// Whether a condition is a contract of the operation of a name.
-fn is_contract_of(decls: &Decls, cond: &CondDecl, name: &Text) -> bool
-    ensures { result ≡ is_contract_of decls.now name.now cond.now }
+/// How many of some texts are names.
+fn count_among(texts: &[Text], names: &NameSet) -> usize
+    ensures { result ≡ count_by (has_text names.now) texts.now }
 {
-    let context_heads = decls.context_heads.as_slice();
-    match &cond.kind {
-        CondKind::Inv => false,
-        CondKind::Pre(op) => op_text(context_heads, op) == name.as_str(),
-        CondKind::Post(op) => op_text(context_heads, op) == name.as_str(),
-    }
+    texts.iter().filter(|text| names.contains(text)).count()
 }
 
-fn has_class(classes: &[&ClassDecl], name: &Text) -> bool
-    ensures { result ≡ list_any (λ d. same_text d.now.name.text name.now) classes.now }
+fn has_too_many(index: &Index<'_>, names: &NameSet, op: &OpDecl) -> bool
+    ensures { result ≡ (nat_lt 16 (length op.now.params) || nat_lt 64 (count_by (has_text names.now) (contract_classes index.now op.now.name.text))) }
 {
-    classes.iter().any(|class| class.name.text == *name)
+    let contracts = count_among(index.contract_classes(&op.name.text), names);
+    op.params.len() > MOST_PARAMS || contracts > MOST_CONTRACTS
 }
 
-fn counts(decls: &Decls, cond: &CondDecl, op: &OpDecl, classes: &[&ClassDecl]) -> bool
-    ensures { result ≡ (is_contract_of decls.now op.now.name.text cond.now && list_any (λ d. same_text d.now.name.text cond.now.class.text) classes.now) }
-{
-    is_contract_of(decls, cond, &op.name.text) && has_class(classes, &cond.class.text)
-}
-
-fn contracts_above(decls: &Decls, conds: &[CondDecl], op: &OpDecl, classes: &[&ClassDecl]) -> usize
-    ensures { result ≡ count_by (λ c. is_contract_of decls.now op.now.name.text c
-        && list_any (λ d. same_text d.now.name.text c.class.text) classes.now) conds.now }
-{
-    conds
-        .iter()
-        .filter(|cond| counts(decls, cond, op, classes))
-        .count()
-}
-
-/// How many contracts an operation has, with those of the declarations that it overrides.
-fn contract_count(decls: &Decls, op: &OpDecl, classes: &[&ClassDecl]) -> usize
-    ensures { result ≡ contract_count decls.now (map (λ c. c.now) classes.now) op.now }
-{
-    contracts_above(decls, decls.conds.as_slice(), op, classes)
-}
-
-fn has_too_many(decls: &Decls, op: &OpDecl, classes: &[&ClassDecl]) -> bool
-    ensures { result ≡ (nat_lt 16 (length op.now.params) || nat_lt 64 (contract_count decls.now (map (λ c. c.now) classes.now) op.now)) }
-{
-    op.params.len() > MOST_PARAMS || contract_count(decls, op, classes) > MOST_CONTRACTS
-}
-
-/// The first operation of a class, given with its ancestors, that has too many parameters or
-/// contracts.
-pub(crate) fn first_too_many(
-    decls: &Decls,
-    class: &ClassDecl,
-    classes: &[&ClassDecl],
-) -> Option<Place>
-    ensures { result ≡ first_op (λ op. nat_lt 16 (length op.params) || nat_lt 64 (contract_count decls.now (map (λ c. c.now) classes.now) op)) class.now }
+/// The first operation of a class that has too many parameters, or too many contracts in the
+/// contexts of classes of some names.
+fn first_with_too_many(index: &Index<'_>, names: &NameSet, class: &ClassDecl) -> Option<Place>
+    ensures { result ≡ first_op (λ op. nat_lt 16 (length op.params)
+        || nat_lt 64 (count_by (has_text names.now) (contract_classes index.now op.name.text))) class.now }
 {
     let ops = class.ops.as_slice();
     ops.iter()
-        .find(|op| has_too_many(decls, op, classes))
+        .find(|op| has_too_many(index, names, op))
         .map(|op| op.name.place)
+}
+
+/// The names of classes.
+fn class_names(alloc: Global, classes: &[&ClassDecl]) -> Result<NameSet, AllocError>
+    ensures { IfOk result (λ s. (t : List ℕ) → has_text s t ≡ has_text (map (λ c. c.now.name.text) classes.now) t) }
+{
+    let mut names = Vec::new(alloc);
+    'classes: for class in classes {
+        names.push(Text::copy_of(alloc, class.name.text.as_str())?)?;
+    }
+    NameSet::of(names)
+}
+
+/// The first operation of a class, given with its ancestors, that has too many parameters or
+/// contracts, with those of the declarations that it overrides.
+pub(crate) fn first_too_many(
+    alloc: Global,
+    index: &Index<'_>,
+    class: &ClassDecl,
+    above: &[&ClassDecl],
+) -> Result<Option<Place>, AllocError>
+    ensures { IfOk result (λ place. place ≡ first_op (λ op. nat_lt 16 (length op.params)
+        || nat_lt 64 (contract_count index.now (map (λ c. c.now) above.now) op)) class.now) }
+{
+    let names = class_names(alloc, above)?;
+    Ok(first_with_too_many(index, &names, class))
 }

@@ -1,12 +1,13 @@
-ghost use Rattle.std.specs.Prelude.{◌≡◌, [], ◌∷◌, ◌++◌, ◌||◌, if◌then◌else◌, IfOk, OnOk, map, nat_lt, length};
+ghost use Rattle.std.specs.Prelude.{◌≡◌, ◌++◌, ◌||◌, IfOk, OnOk, map, nat_lt, length};
 ghost use Rattle.std.specs.Cmp.Lexicographic.{slice_cmp};
 ghost use Rattle.std.specs.Ordering.{nat_cmp};
 ghost use Rattle.use_orders.specs.Canon.{set_of};
 ghost use Rattle.std.specs.List.{flat_map};
-ghost use Rattle.class_rules.specs.Features.{attrs_of, has_role_clash, meet, ops_of, roles_in, roles_of};
-ghost use Rattle.class_decls.specs.Texts.{repeats, same_text};
+ghost use Rattle.class_rules.specs.Features.{attrs_of, has_role_clash, meet, ops_of, roles_of};
+ghost use Rattle.class_decls.specs.Texts.{repeats};
 
-use class_decls::{AssocDecl, ClassDecl, Name, NameSet, add_texts};
+use crate::index::Index;
+use class_decls::{ClassDecl, NameSet, add_texts};
 use ocl_values::Text;
 use std::alloc::{AllocError, Global};
 use use_orders::set;
@@ -53,46 +54,12 @@ fn op_texts(alloc: Global, classes: &[&ClassDecl]) -> Result<Vec<Text>, AllocErr
     Ok(texts)
 }
 
-/// Adds a role, if its owner is a class of a name.
-fn add_role(
-    alloc: Global,
-    class: &Name,
-    owner: &Name,
-    role: &Name,
-    texts: &mut Vec<Text>,
-) -> Result<(), AllocError>
-    ensures { OnOk result (texts.new.items ≡ texts.old.items ++ (if same_text owner.now.text class.now.text then role.now.text ∷ [] else [])) }
+/// Adds copies of texts.
+fn add_copies(alloc: Global, copied: &[Text], texts: &mut Vec<Text>) -> Result<(), AllocError>
+    ensures { OnOk result (texts.new.items ≡ texts.old.items ++ copied.now) }
 {
-    if owner.text == class.text {
-        let text = Text::copy_of(alloc, role.text.as_str())?;
-        texts.push(text)?;
-    }
-    Ok(())
-}
-
-fn add_roles(
-    alloc: Global,
-    assocs: &[AssocDecl],
-    class: &ClassDecl,
-    texts: &mut Vec<Text>,
-) -> Result<(), AllocError>
-    ensures { OnOk result (texts.new.items ≡ texts.old.items ++ flat_map (λ a. roles_in a class.now) assocs.now) }
-{
-    'assocs: for assoc in assocs {
-        add_role(
-            alloc,
-            &class.name,
-            &assoc.first.class,
-            &assoc.second.role,
-            texts,
-        )?;
-        add_role(
-            alloc,
-            &class.name,
-            &assoc.second.class,
-            &assoc.first.role,
-            texts,
-        )?;
+    'copied: for text in copied {
+        texts.push(Text::copy_of(alloc, text.as_str())?)?;
     }
     Ok(())
 }
@@ -100,14 +67,14 @@ fn add_roles(
 /// The roles at the other ends of the associations that classes take part in.
 fn role_texts(
     alloc: Global,
-    assocs: &[AssocDecl],
+    index: &Index<'_>,
     classes: &[&ClassDecl],
 ) -> Result<Vec<Text>, AllocError>
-    ensures { IfOk result (λ v. v.items ≡ roles_of assocs.now (map (λ c. c.now) classes.now)) }
+    ensures { IfOk result (λ v. v.items ≡ roles_of index.now.assocs (map (λ c. c.now) classes.now)) }
 {
     let mut texts = Vec::new(alloc);
     'classes: for class in classes {
-        add_roles(alloc, assocs, class, &mut texts)?;
+        add_copies(alloc, index.roles(&class.name.text), &mut texts)?;
     }
     Ok(texts)
 }
@@ -132,12 +99,12 @@ fn meet(texts: &[Text], others: Vec<Text>) -> Result<bool, AllocError>
 /// Whether a role of a class, given with its ancestors, is named as another role or an attribute.
 pub(crate) fn role_clashes(
     alloc: Global,
-    assocs: &[AssocDecl],
+    index: &Index<'_>,
     above: &[&ClassDecl],
 ) -> Result<bool, AllocError>
-    ensures { IfOk result (λ b. b ≡ has_role_clash assocs.now (map (λ c. c.now) above.now)) }
+    ensures { IfOk result (λ b. b ≡ has_role_clash index.now.assocs (map (λ c. c.now) above.now)) }
 {
-    let roles = role_texts(alloc, assocs, above)?;
+    let roles = role_texts(alloc, index, above)?;
     let attrs = attr_texts(alloc, above)?;
     let meets = meet(roles.as_slice(), attrs)?;
     let twice = has_repeat(roles)?;

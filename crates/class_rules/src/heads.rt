@@ -1,48 +1,88 @@
-ghost use Rattle.std.specs.Prelude.{◌≡◌, ◌&&◌, List, ℕ, IfOk, slice_get};
-ghost use Rattle.std.specs.BTreeMap.{get};
-ghost use Rattle.std.specs.Cmp.Lexicographic.{slice_cmp};
+ghost use Rattle.std.specs.Prelude.{◌≡◌, IfOk};
 ghost use Rattle.std.specs.List.{list_any};
-ghost use Rattle.std.specs.Ordering.{nat_cmp};
-ghost use Rattle.class_rules.specs.Numbering.{class_at};
+ghost use Rattle.class_rules.specs.Declared.{AreOpsOf, IsOpsOf};
 ghost use Rattle.class_rules.specs.Operations.{declares_head, no_such_operation, same_signature, undeclared_head};
-ghost use Rattle.class_decls.specs.Texts.{first_given, same_text};
+ghost use Rattle.class_decls.specs.Texts.{first_given};
 
-use crate::clash::same_signature;
+use crate::clash::{add_ops, same_signature};
+use crate::groups::{Groups, of_name};
 use crate::places::{Places, class_places};
-use class_decls::{CondDecl, Decls, OpDecl, head_in};
+use class_decls::{ClassDecl, CondDecl, Decls, OpDecl, head_in};
 use ocl_values::Text;
 use std::alloc::{AllocError, Global};
+use std::collections::BTreeMap;
+use std::marker::Model;
 use use_text::Place;
 
-fn has_head(ops: &[OpDecl], head: &OpDecl) -> bool
-    ensures { result ≡ list_any (λ op. same_text op.name.text head.now.name.text && same_signature op head.now) ops.now }
+/// The operations of each class by name, and where the classes stand.
+#[derive(Drop)]
+struct Declared<'a> {
+    decls: &'a Decls,
+    places: Places,
+    ops: Vec<Groups<&'a OpDecl>>,
+}
+
+impl<'a> Model for Declared<'a> {
+    ghost use Rattle.class_decls.specs.declared.decls.Decls.{Decls};
+    ghost use Rattle.class_rules.specs.Declared.{IsDeclaredOf};
+
+    ghost Value = { Decls };
+
+    ghost view = { λ d. d.decls.now };
+
+    ghost invariant = { λ d. IsDeclaredOf d.decls.now d.places d.ops.items };
+}
+
+/// The operations of a class by name.
+fn ops_of<'a>(alloc: Global, class: &'a ClassDecl) -> Result<Groups<&'a OpDecl>, AllocError>
+    ensures { IfOk result (λ groups. IsOpsOf groups class.now) }
 {
-    ops.iter().any(|op| op.name.text == head.name.text && same_signature(op, head))
+    let mut groups = BTreeMap::new(alloc);
+    add_ops(alloc, &mut groups, class.ops.as_slice())?;
+    Ok(groups)
+}
+
+/// The operations of each class by name.
+fn ops_of_all<'a>(
+    alloc: Global,
+    classes: &'a [ClassDecl],
+) -> Result<Vec<Groups<&'a OpDecl>>, AllocError>
+    ensures { IfOk result (λ v. AreOpsOf v.items classes.now) }
+{
+    let mut all = Vec::new(alloc);
+    'classes: for class in classes {
+        all.push(ops_of(alloc, class)?)?;
+    }
+    Ok(all)
+}
+
+/// Whether one of some operations takes the parameters of a head and gives its result.
+fn has_signature(ops: &[&OpDecl], head: &OpDecl) -> bool
+    ensures { result ≡ list_any (λ op. same_signature op.now head.now) ops.now }
+{
+    ops.iter().any(|op| same_signature(op, head))
 }
 
 /// Whether the class of a name declares an operation of this head's name and types.
-fn declares_head(decls: &Decls, places: &Places, class: &Text, head: &OpDecl) -> bool
-    requires { (t : List ℕ) → get (slice_cmp nat_cmp) places.now t ≡ class_at decls.now t }
-    ensures { result ≡ declares_head decls.now class.now head.now }
+fn declares_head(declared: &Declared<'_>, class: &Text, head: &OpDecl) -> bool
+    ensures { result ≡ declares_head declared.now class.now head.now }
 {
-    match places.get(class) {
+    match declared.places.get(class) {
         None => false,
-        Some(place) => match decls.classes.get(*place) {
+        Some(place) => match declared.ops.get(*place) {
             None => false,
-            Some(class) => has_head(class.ops.as_slice(), head),
+            Some(ops) => has_signature(of_name(ops, &head.name.text), head),
         },
     }
 }
-
 /// Where a context names a head that its class does not declare.
-fn undeclared_head(decls: &Decls, places: &Places, cond: &CondDecl) -> Option<Place>
-    requires { (t : List ℕ) → get (slice_cmp nat_cmp) places.now t ≡ class_at decls.now t }
-    ensures { result ≡ undeclared_head decls.now cond.now }
+fn undeclared_head(declared: &Declared<'_>, cond: &CondDecl) -> Option<Place>
+    ensures { result ≡ undeclared_head declared.now cond.now }
 {
-    match head_in(decls.context_heads.as_slice(), &cond.kind) {
+    match head_in(declared.decls.context_heads.as_slice(), &cond.kind) {
         None => None,
         Some(head) => {
-            if declares_head(decls, places, &cond.class.text, head) {
+            if declares_head(declared, &cond.class.text, head) {
                 None
             } else {
                 Some(head.name.place)
@@ -51,12 +91,11 @@ fn undeclared_head(decls: &Decls, places: &Places, cond: &CondDecl) -> Option<Pl
     }
 }
 
-fn first_undeclared(decls: &Decls, places: &Places, conds: &[CondDecl]) -> Option<Place>
-    requires { (t : List ℕ) → get (slice_cmp nat_cmp) places.now t ≡ class_at decls.now t }
-    ensures { result ≡ first_given (undeclared_head decls.now) conds.now }
+fn first_undeclared(declared: &Declared<'_>, conds: &[CondDecl]) -> Option<Place>
+    ensures { result ≡ first_given (undeclared_head declared.now) conds.now }
 {
     'conds: for cond in conds {
-        let place = undeclared_head(decls, places, cond);
+        let place = undeclared_head(declared, cond);
         if place.is_some() {
             return place;
         }
@@ -69,5 +108,7 @@ pub(crate) fn no_such_operation(alloc: Global, decls: &Decls) -> Result<Option<P
     ensures { IfOk result (λ place. place ≡ no_such_operation decls.now) }
 {
     let places = class_places(alloc, decls)?;
-    Ok(first_undeclared(decls, &places, decls.conds.as_slice()))
+    let ops = ops_of_all(alloc, decls.classes.as_slice())?;
+    let declared = Declared { decls, places, ops };
+    Ok(first_undeclared(&declared, decls.conds.as_slice()))
 }

@@ -1,119 +1,128 @@
-ghost use Rattle.std.specs.Prelude.{◌≡◌, ◌&&◌, ◌||◌, ℕ, IfOk, not};
+ghost use Rattle.std.specs.Prelude.{◌≡◌, ◌++◌, List, ℕ, IfOk, OnOk, nat_eq, nat_leb};
 ghost use Rattle.std.specs.List.{list_all, list_any};
-ghost use Rattle.class_rules.specs.Ancestors.{ancestors, class_numbered, parent_numbers};
-ghost use Rattle.class_rules.specs.Numbering.{is_among};
-ghost use Rattle.class_rules.specs.Operations.{declares_op, has_overriding, is_ambiguous, overrides_all};
-ghost use Rattle.class_decls.specs.Texts.{same_text};
+ghost use Rattle.class_rules.specs.Ancestors.{parent_numbers};
+ghost use Rattle.class_rules.specs.Groups.{listed};
+ghost use Rattle.class_rules.specs.Operations.{is_ambiguous};
+ghost use Rattle.class_rules.specs.Declaring.{declaring, is_disputed, ops_numbered, times_declared};
 
+use crate::groups::{Groups, add_to, of_name};
 use crate::hierarchy::Hierarchy;
-use class_decls::{ClassDecl, OpDecl};
-use ocl_values::Text;
+use class_decls::OpDecl;
 use std::alloc::{AllocError, Global};
+use std::collections::BTreeMap;
+use use_orders::contains_all;
 
-fn has_op(ops: &[OpDecl], name: &Text) -> bool
-    ensures { result ≡ list_any (λ op. same_text op.name.text name.now) ops.now }
-{
-    ops.iter().any(|op| op.name.text == *name)
-}
-
-/// Whether the class of a number declares an operation of a name.
-fn declares_op(hierarchy: &Hierarchy<'_>, name: &Text, number: usize) -> bool
-    ensures { result ≡ declares_op hierarchy.now name.now number }
-{
-    match hierarchy.class(number) {
-        None => false,
-        Some(class) => has_op(class.ops.as_slice(), name),
-    }
-}
-
-fn is_among(numbers: &[usize], number: usize) -> bool
-    ensures { result ≡ is_among numbers.now number }
-{
-    numbers.iter().any(|other| number == *other)
-}
-
-/// Whether those of some classes that declare an operation are all among others.
-fn all_among(hierarchy: &Hierarchy<'_>, name: &Text, classes: &[usize], others: &[usize]) -> bool
-    ensures { result ≡ list_all (λ d. not (declares_op hierarchy.now name.now d) || is_among others.now d) classes.now }
-{
-    classes.iter().all(|class| !declares_op(hierarchy, name, *class) || is_among(others, *class))
-}
-
-/// Whether a class declares an operation, and so overrides all other declarations of its name in
-/// some classes.
-fn overrides_all(
+/// Adds a class under the name of each of some operations.
+fn add_number(
     alloc: Global,
-    hierarchy: &Hierarchy<'_>,
-    name: &Text,
-    classes: &[usize],
-    class: usize,
-) -> Result<bool, AllocError>
-    ensures { IfOk result (λ b. b ≡ overrides_all hierarchy.now classes.now name.now class) }
-{
-    if !declares_op(hierarchy, name, class) {
-        return Ok(false);
-    }
-    let others = hierarchy.ancestors(alloc, class)?;
-    Ok(all_among(hierarchy, name, classes, others.as_slice()))
-}
-
-/// Whether one of some classes, in order, overrides all other declarations of an operation. Only
-/// the last that declares it can, so the last are tried first.
-fn has_overriding(
-    alloc: Global,
-    hierarchy: &Hierarchy<'_>,
-    classes: &[usize],
-    name: &Text,
-) -> Result<bool, AllocError>
-    ensures { IfOk result (λ b. b ≡ has_overriding hierarchy.now classes.now name.now) }
-{
-    let mut i = classes.len();
-    'classes: while i > 0 {
-        i -= 1;
-        let overrides = overrides_all(alloc, hierarchy, name, classes, classes[i])?;
-        if overrides {
-            return Ok(true);
-        }
-    }
-    Ok(false)
-}
-
-fn some_ambiguous(
-    alloc: Global,
-    hierarchy: &Hierarchy<'_>,
-    classes: &[usize],
+    groups: &mut Groups<usize>,
+    number: usize,
     ops: &[OpDecl],
-) -> Result<bool, AllocError>
-    ensures { IfOk result (λ b. b ≡ list_any (λ op. not (has_overriding hierarchy.now classes.now op.name.text)) ops.now) }
+) -> Result<(), AllocError>
+    ensures { OnOk result ((t : List ℕ) → listed groups.new t ≡ listed groups.old t ++ times_declared number t ops.now) }
 {
     'ops: for op in ops {
-        let overrides = has_overriding(alloc, hierarchy, classes, &op.name.text)?;
-        if !overrides {
-            return Ok(true);
-        }
+        add_to(alloc, groups, &op.name.text, number)?;
     }
-    Ok(false)
+    Ok(())
 }
 
-fn some_class_ambiguous(
+/// The operations that the class of a number declares.
+fn ops_of<'a>(hierarchy: &Hierarchy<'a>, number: usize) -> &'a [OpDecl]
+    ensures { result.now ≡ ops_numbered hierarchy.now number }
+{
+    match hierarchy.class(number) {
+        None => &[],
+        Some(class) => class.ops.as_slice(),
+    }
+}
+
+/// Which of some classes declare the operations of each name.
+fn declaring(
     alloc: Global,
     hierarchy: &Hierarchy<'_>,
-    classes: &[usize],
-    declaring: &[&ClassDecl],
-) -> Result<bool, AllocError>
-    ensures { IfOk result (λ b. b ≡ list_any (λ c. list_any (λ op. not (has_overriding hierarchy.now classes.now op.name.text)) c.now.ops) declaring.now) }
+    numbers: &[usize],
+) -> Result<Groups<usize>, AllocError>
+    ensures { IfOk result (λ groups. (t : List ℕ) → listed groups t ≡ declaring hierarchy.now numbers.now t) }
 {
-    'declaring: for class in declaring {
-        let ambiguous = some_ambiguous(alloc, hierarchy, classes, class.ops.as_slice())?;
-        if ambiguous {
+    let mut groups = BTreeMap::new(alloc);
+    'numbers: for number in numbers {
+        add_number(alloc, &mut groups, *number, ops_of(hierarchy, *number))?;
+    }
+    Ok(groups)
+}
+
+/// Whether a class alone declares an operation.
+fn is_alone(numbers: &[usize], number: usize) -> bool
+    ensures { result ≡ list_all (nat_eq number) numbers.now }
+{
+    numbers.iter().all(|other| number == *other)
+}
+
+/// Whether a class has the greatest number of those that declare an operation.
+fn is_last(numbers: &[usize], number: usize) -> bool
+    ensures { result ≡ list_all (λ other. nat_leb other number) numbers.now }
+{
+    numbers.iter().all(|other| *other <= number)
+}
+
+/// Whether a class is the last of those that declare an operation, and not below all of them.
+fn is_disputed(
+    alloc: Global,
+    hierarchy: &Hierarchy<'_>,
+    numbers: &[usize],
+    number: usize,
+) -> Result<bool, AllocError>
+    ensures { IfOk result (λ b. b ≡ is_disputed (parent_numbers hierarchy.now) numbers.now number) }
+{
+    if is_alone(numbers, number) || !is_last(numbers, number) {
+        return Ok(false);
+    }
+    let above = hierarchy.ancestors(alloc, number)?;
+    let overrides_all = contains_all(alloc, above.as_slice(), numbers)?;
+    Ok(!overrides_all)
+}
+
+fn some_disputed(
+    alloc: Global,
+    hierarchy: &Hierarchy<'_>,
+    groups: &Groups<usize>,
+    number: usize,
+    ops: &[OpDecl],
+) -> Result<bool, AllocError>
+    ensures { IfOk result (λ b. b ≡ list_any (λ op. is_disputed (parent_numbers hierarchy.now) (listed groups.now op.name.text) number) ops.now) }
+{
+    'ops: for op in ops {
+        let numbers = of_name(groups, &op.name.text);
+        let disputed = is_disputed(alloc, hierarchy, numbers, number)?;
+        if disputed {
             return Ok(true);
         }
     }
     Ok(false)
 }
 
-/// Whether no declaration of an operation of some classes, in order, overrides all others of its
-/// name.
+fn some_class_disputed(
+    alloc: Global,
+    hierarchy: &Hierarchy<'_>,
+    groups: &Groups<usize>,
+    numbers: &[usize],
+) -> Result<bool, AllocError>
+    ensures { IfOk result (λ b. b ≡ list_any (λ number. list_any
+        (λ op. is_disputed (parent_numbers hierarchy.now) (listed groups.now op.name.text) number) (ops_numbered hierarchy.now number)) numbers.now) }
+{
+    'numbers: for number in numbers {
+        let ops = ops_of(hierarchy, *number);
+        let disputed = some_disputed(alloc, hierarchy, groups, *number, ops)?;
+        if disputed {
+            return Ok(true);
+        }
+    }
+    Ok(false)
+}
+
+/// Whether no declaration of an operation of some classes overrides all others of its name. Only the
+/// last that declares it can, so it is asked of that one.
 pub(crate) fn is_ambiguous(
     alloc: Global,
     hierarchy: &Hierarchy<'_>,
@@ -121,7 +130,7 @@ pub(crate) fn is_ambiguous(
 ) -> Result<bool, AllocError>
     ensures { IfOk result (λ b. b ≡ is_ambiguous hierarchy.now classes.now) }
 {
-    let declaring = hierarchy.classes(alloc, classes)?;
-    let ambiguous = some_class_ambiguous(alloc, hierarchy, classes, declaring.as_slice())?;
-    Ok(ambiguous)
+    let groups = declaring(alloc, hierarchy, classes)?;
+    let disputed = some_class_disputed(alloc, hierarchy, &groups, classes)?;
+    Ok(disputed)
 }

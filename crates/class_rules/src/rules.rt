@@ -8,6 +8,7 @@ use crate::by_class::{ClassRule, first_broken};
 use crate::cycles::inheritance_cycle;
 use crate::heads::no_such_operation;
 use crate::hierarchy::Hierarchy;
+use crate::index::Index;
 use crate::places::parent_places;
 use class_decls::{
     Decls, bad_multiplicity, name_declared_twice, operation_declared_twice, parent_named_twice,
@@ -58,29 +59,26 @@ fn judge_names(alloc: Global, decls: &Decls) -> Result<(), RuleFault>
     tell(3, parent_named_twice(alloc, decls)?)
 }
 
-fn judge_features(alloc: Global, hierarchy: &Hierarchy<'_>) -> Result<(), RuleFault>
-    ensures { Tells (broken_features hierarchy.now) result }
+fn judge_features(alloc: Global, index: &Index<'_>) -> Result<(), RuleFault>
+    ensures { Tells (broken_features index.now) result }
 {
+    tell(5, first_broken(alloc, index, ClassRule::AttributeMetTwice)?)?;
+    tell(6, first_broken(alloc, index, ClassRule::RoleClashes)?)?;
     tell(
-        5,
-        first_broken(alloc, hierarchy, ClassRule::AttributeMetTwice)?,
-    )?;
-    tell(6, first_broken(alloc, hierarchy, ClassRule::RoleClashes)?)?;
-    tell(7, operation_declared_twice(alloc, hierarchy.decls())?)
+        7,
+        operation_declared_twice(alloc, index.hierarchy().decls())?,
+    )
 }
 
-fn judge_overriding(alloc: Global, hierarchy: &Hierarchy<'_>) -> Result<(), RuleFault>
-    ensures { Tells (broken_overriding hierarchy.now) result }
+fn judge_overriding(alloc: Global, index: &Index<'_>) -> Result<(), RuleFault>
+    ensures { Tells (broken_overriding index.now) result }
 {
-    tell(
-        8,
-        first_broken(alloc, hierarchy, ClassRule::SignatureChanges)?,
-    )?;
+    tell(8, first_broken(alloc, index, ClassRule::SignatureChanges)?)?;
     tell(
         9,
-        first_broken(alloc, hierarchy, ClassRule::OperationAmbiguous)?,
+        first_broken(alloc, index, ClassRule::OperationAmbiguous)?,
     )?;
-    tell(10, first_broken(alloc, hierarchy, ClassRule::BodiesMixed)?)
+    tell(10, first_broken(alloc, index, ClassRule::BodiesMixed)?)
 }
 
 fn judge_parts(alloc: Global, decls: &Decls) -> Result<(), RuleFault>
@@ -91,25 +89,19 @@ fn judge_parts(alloc: Global, decls: &Decls) -> Result<(), RuleFault>
     tell(13, too_many_classes(decls))
 }
 
-fn judge_sizes(alloc: Global, hierarchy: &Hierarchy<'_>) -> Result<(), RuleFault>
-    ensures { Tells (broken_sizes hierarchy.now) result }
+fn judge_sizes(alloc: Global, index: &Index<'_>) -> Result<(), RuleFault>
+    ensures { Tells (broken_sizes index.now) result }
 {
-    tell(
-        14,
-        first_broken(alloc, hierarchy, ClassRule::TooManyFeatures)?,
-    )?;
-    tell(15, too_many_assocs(hierarchy.decls()))?;
-    tell(16, too_many_invariants(hierarchy.decls()))
+    tell(14, first_broken(alloc, index, ClassRule::TooManyFeatures)?)?;
+    tell(15, too_many_assocs(index.hierarchy().decls()))?;
+    tell(16, too_many_invariants(index.hierarchy().decls()))
 }
 
-fn judge_counts(alloc: Global, hierarchy: &Hierarchy<'_>) -> Result<(), RuleFault>
-    ensures { Tells (broken_counts hierarchy.now) result }
+fn judge_counts(alloc: Global, index: &Index<'_>) -> Result<(), RuleFault>
+    ensures { Tells (broken_counts index.now) result }
 {
-    tell(
-        17,
-        first_broken(alloc, hierarchy, ClassRule::TooManyContracts)?,
-    )?;
-    tell(18, too_many_literals(hierarchy.decls()))
+    tell(17, first_broken(alloc, index, ClassRule::TooManyContracts)?)?;
+    tell(18, too_many_literals(index.hierarchy().decls()))
 }
 
 /// Whether declarations are well formed. Refused with the least rule of M1 to M18 that they break,
@@ -121,9 +113,10 @@ pub fn judge(alloc: Global, decls: &Decls) -> Result<(), RuleFault>
     let parents = parent_places(alloc, decls)?;
     tell(4, inheritance_cycle(alloc, decls, parents.as_slice())?)?;
     let hierarchy = Hierarchy::of_places(alloc, decls, parents.as_slice())?;
-    judge_features(alloc, &hierarchy)?;
-    judge_overriding(alloc, &hierarchy)?;
+    let index = Index::of(alloc, hierarchy)?;
+    judge_features(alloc, &index)?;
+    judge_overriding(alloc, &index)?;
     judge_parts(alloc, decls)?;
-    judge_sizes(alloc, &hierarchy)?;
-    judge_counts(alloc, &hierarchy)
+    judge_sizes(alloc, &index)?;
+    judge_counts(alloc, &index)
 }

@@ -1,0 +1,27 @@
+-- The operations of each class by name.
+use denote.Ref.{Bor}
+use Rattle.std.specs.Prelude.{◌≡◌, ⊤, ℕ, List, [], ◌∷◌, map}
+use Rattle.std.specs.BTreeMap.{BTreeMap, get}
+use Rattle.std.specs.Cmp.Lexicographic.{slice_cmp}
+use Rattle.std.specs.Ordering.{nat_cmp}
+use Rattle.class_decls.specs.declared.decls.ClassDecl.{ClassDecl}
+use Rattle.class_decls.specs.declared.decls.Decls.{Decls}
+use Rattle.class_decls.specs.declared.decls.OpDecl.{OpDecl}
+use Rattle.class_rules.specs.Groups.{listed}
+use Rattle.class_rules.specs.Numbering.{class_at}
+use Rattle.class_rules.specs.Operations.{ops_named}
+
+-- those of a class
+abbrev pub IsOpsOf : BTreeMap (List ℕ) (List (Bor OpDecl)) → ClassDecl → Type 0
+IsOpsOf groups c = (name : List ℕ) → map (λ op. op.now) (listed groups name) ≡ ops_named name c.ops
+
+-- those of some classes
+abbrev pub AreOpsOf : List (BTreeMap (List ℕ) (List (Bor OpDecl))) → List ClassDecl → Type 0
+AreOpsOf [] [] = ⊤
+AreOpsOf (groups ∷ more) (c ∷ cs) = IsOpsOf groups c × AreOpsOf more cs
+AreOpsOf _ _ = ⊥
+
+-- where the classes of declarations stand, and the operations of each
+pub record IsDeclaredOf (ds : Decls) (places : BTreeMap (List ℕ) ℕ) (ops : List (BTreeMap (List ℕ) (List (Bor OpDecl)))) : Type 0 where
+  pub placed : (name : List ℕ) → get (slice_cmp nat_cmp) places name ≡ class_at ds name
+  pub each : AreOpsOf ops ds.classes
