@@ -12,3 +12,5 @@ pub mod Different
 pub mod Skipped
 pub mod Signatures
 pub mod Grouped
+pub mod ByName
+pub mod Disputed

@@ -1,5 +1,5 @@
 -- Which classes declare an operation, and whether the last of them overrides the others.
-use Rattle.std.specs.Prelude.{ℕ, Bool, not, ◌&&◌, if◌then◌else◌, nat_leb, List, [], ◌∷◌}
+use Rattle.std.specs.Prelude.{ℕ, Bool, not, ◌&&◌, if◌then◌else◌, nat_lt, List, [], ◌∷◌}
 use Rattle.std.specs.List.{flat_map, list_all}
 use Rattle.std.specs.Option.{option_map_or}
 use Rattle.class_decls.specs.declared.decls.Decls.{Decls}
@@ -22,4 +22,4 @@ declaring ds numbers name = flat_map (λ n. times_declared n name (ops_numbered 
 
 -- a class is the last of those that declare an operation, and they are not all among its ancestors
 abbrev pub is_disputed : List (List ℕ) → List ℕ → ℕ → Bool
-is_disputed parents numbers n = list_all (λ d. nat_leb d n) numbers && not (list_all (is_among (ancestors parents n)) numbers)
+is_disputed parents numbers n = list_all (λ d. not (nat_lt n d)) numbers && not (list_all (is_among (ancestors parents n)) numbers)

@@ -6,7 +6,7 @@ pub mod Ancestors
 pub mod Features
 pub mod Operations
 pub mod Declaring
-pub mod Declared
+pub mod ClassOps
 pub mod Index
 pub mod Agreeing
 pub mod ClassRules

@@ -1,6 +1,6 @@
 ghost use Rattle.std.specs.Prelude.{◌≡◌, IfOk};
 ghost use Rattle.std.specs.List.{list_any};
-ghost use Rattle.class_rules.specs.Declared.{AreOpsOf, IsOpsOf};
+ghost use Rattle.class_rules.specs.ClassOps.{AreOpsOf, IsOpsOf};
 ghost use Rattle.class_rules.specs.Operations.{declares_head, no_such_operation, same_signature, undeclared_head};
 ghost use Rattle.class_decls.specs.Texts.{first_given};
 
@@ -24,7 +24,7 @@ struct Declared<'a> {
 
 impl<'a> Model for Declared<'a> {
     ghost use Rattle.class_decls.specs.declared.decls.Decls.{Decls};
-    ghost use Rattle.class_rules.specs.Declared.{IsDeclaredOf};
+    ghost use Rattle.class_rules.specs.ClassOps.{IsDeclaredOf};
 
     ghost Value = { Decls };
 
@@ -64,6 +64,7 @@ fn has_signature(ops: &[&OpDecl], head: &OpDecl) -> bool
 }
 
 /// Whether the class of a name declares an operation of this head's name and types.
+#[tactic(auto, using(crate::proofs::ByName::head_found, crate::proofs::ByName::head_missing))]
 fn declares_head(declared: &Declared<'_>, class: &Text, head: &OpDecl) -> bool
     ensures { result ≡ declares_head declared.now class.now head.now }
 {

@@ -113,7 +113,7 @@ fn contracts_by_operation(
 impl<'a> Index<'a> {
     /// What the rules of these declarations look up.
     pub(crate) fn of(alloc: Global, hierarchy: Hierarchy<'a>) -> Result<Index<'a>, AllocError>
-        ensures { IfOk result (λ index. index ≡ hierarchy) }
+        ensures { IfOk result (λ index. index ≡ hierarchy.entry) }
     {
         let decls = hierarchy.decls();
         let roles = roles_by_class(alloc, decls.assocs.as_slice())?;

@@ -1,4 +1,4 @@
-ghost use Rattle.std.specs.Prelude.{◌≡◌, ◌++◌, List, ℕ, IfOk, OnOk, nat_eq, nat_leb};
+ghost use Rattle.std.specs.Prelude.{◌≡◌, ◌++◌, List, ℕ, IfOk, OnOk, nat_eq, nat_lt, not};
 ghost use Rattle.std.specs.List.{list_all, list_any};
 ghost use Rattle.class_rules.specs.Ancestors.{parent_numbers};
 ghost use Rattle.class_rules.specs.Groups.{listed};
@@ -61,7 +61,7 @@ fn is_alone(numbers: &[usize], number: usize) -> bool
 
 /// Whether a class has the greatest number of those that declare an operation.
 fn is_last(numbers: &[usize], number: usize) -> bool
-    ensures { result ≡ list_all (λ other. nat_leb other number) numbers.now }
+    ensures { result ≡ list_all (λ other. not (nat_lt number other)) numbers.now }
 {
     numbers.iter().all(|other| *other <= number)
 }
@@ -75,7 +75,10 @@ fn is_disputed(
 ) -> Result<bool, AllocError>
     ensures { IfOk result (λ b. b ≡ is_disputed (parent_numbers hierarchy.now) numbers.now number) }
 {
-    if is_alone(numbers, number) || !is_last(numbers, number) {
+    if is_alone(numbers, number) {
+        return Ok(false);
+    }
+    if !is_last(numbers, number) {
         return Ok(false);
     }
     let above = hierarchy.ancestors(alloc, number)?;
