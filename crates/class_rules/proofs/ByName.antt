@@ -1,6 +1,6 @@
 -- Operations and contracts, found by name.
 use denote.Ref.{Bor}
-use Rattle.std.proofs.Common.{◌≡◌, ℕ, zero, suc, ◌+◌, ◌<◌, Bool, true, false, ◌&&◌, ◌||◌, cond, List, [], ◌∷◌, ◌++◌, length, get_or, map, take, filter, slice_get, count_by, Option, Some, None, refl, sym, ap, ap₂, ◌∙◌}
+use Rattle.std.proofs.Common.{◌≡◌, ℕ, zero, suc, ◌+◌, ◌<◌, Bool, true, false, ◌&&◌, ◌||◌, cond, List, [], ◌∷◌, ◌++◌, length, get_or, map, take, slice_get, count_by, Some, None, refl, sym, ap, ap₂, ◌∙◌, arith}
 use Rattle.std.specs.BTreeMap.{BTreeMap}
 use Rattle.std.specs.List.{flat_map, list_any}
 use Rattle.std.specs.Option.{option_and_then, option_map_or}
@@ -90,7 +90,9 @@ module _ (ds : Decls) (all : List (BTreeMap (List ℕ) (List (Bor OpDecl)))) (h 
 count_kept : (p : List ℕ → Bool) (b : Bool) (t : List ℕ) (rest : List (List ℕ)) (n : ℕ) → count_by p rest ≡ n →
     count_by p (cond b (t ∷ []) [] ++ rest) ≡ cond (b && p t) 1 0 + n
 count_kept p true t rest n e = sum_by-cons (λ y. cond (p y) 1 0) t rest ∙ ap (λ m. cond (p t) 1 0 + m) e
-count_kept p false t rest n e = e
+count_kept p false t rest n e =
+    let z : n ≡ 0 + n = omega arith in
+    e ∙ z
 
 count_contracts : (p : List ℕ → Bool) (ds : Decls) (t : List ℕ) (conds : List CondDecl) →
     count_by p (flat_map (λ c. cond (is_contract_of ds t c) (c.class.text ∷ []) []) conds) ≡ count_by (λ c. is_contract_of ds t c && p c.class.text) conds

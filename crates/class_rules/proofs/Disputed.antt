@@ -1,6 +1,6 @@
 -- An operation is ambiguous exactly if the last class that declares it is not below all others that do.
-use Rattle.std.proofs.Common.{◌≡◌, ◌⊎◌, ℕ, zero, suc, ◌<◌, ◌≤◌, Bool, true, false, not, ◌&&◌, ◌||◌, cond, nat_eq, nat_lt, List, [], ◌∷◌, ◌++◌, Option, Some, None, refl, sym, ap, ap₂, ◌∙◌, subst, arith, true≢false, ⊎_elim}
-use Rattle.std.specs.List.{AllByRecursion, cons_option, filter_map, flat_map, list_all, list_any}
+use Rattle.std.proofs.Common.{◌≡◌, ℕ, suc, ◌<◌, ◌≤◌, Bool, true, false, not, ◌&&◌, ◌||◌, cond, nat_eq, nat_lt, List, [], ◌∷◌, ◌++◌, Option, Some, None, refl, sym, ap, ap₂, ◌∙◌, arith, true≢false, ⊎_elim}
+use Rattle.std.specs.List.{AllByRecursion, cons_option, filter_map, list_all, list_any}
 use Rattle.std.specs.Option.{option_map_or}
 use Rattle.std.proofs.lemmas.Bool.{cases_Bool}
 use Rattle.std.proofs.lemmas.Bool.Decides.{eqb_tells, leb_tells}
@@ -19,8 +19,7 @@ use Rattle.class_rules.proofs.LeastAbove.{among_has, least_above}
 use Rattle.class_rules.proofs.Ordered.{downward, first_of, second_of}
 use Rattle.class_rules.proofs.PlacedClasses.{same_is}
 use Rattle.class_rules.proofs.Queued.{itself, or_left, or_right}
-use Rattle.class_rules.proofs.Single.{Found, all_at, all_of, any_of, found, same_self}
-use Rattle.class_rules.proofs.Unnumbered.{false_of}
+use Rattle.class_rules.proofs.Single.{all_at, all_of, any_of, found, same_self}
 
 -- two tests that tell the same
 same_by : (a b : Bool) → (a ≡ true → b ≡ true) → (b ≡ true → a ≡ true) → a ≡ b

@@ -1,7 +1,7 @@
 -- What is read of things by name, where one name gets others, or none.
-use Rattle.std.proofs.Common.{◌≡◌, ℕ, Bool, true, false, cond, nat_cmp, List, [], Option, Some, None, unwrap_or, refl, sym, ap, ◌∙◌}
+use Rattle.std.proofs.Common.{◌≡◌, ℕ, Bool, true, false, cond, List, [], Option, Some, None, unwrap_or, refl, sym, ap, ◌∙◌}
 use Rattle.std.specs.BTreeMap.{BTreeMap, UpdatesBy, get}
-use Rattle.std.specs.Cmp.Lexicographic.{slice_cmp, texts_ties}
+use Rattle.std.specs.Cmp.Lexicographic.{texts_ties}
 use Rattle.class_decls.specs.Texts.{same_text}
 use Rattle.class_rules.specs.Groups.{listed}
 use Rattle.class_rules.proofs.PlacedClasses.{text_cmp}

@@ -12,6 +12,7 @@ use ocl_values::Text;
 use std::alloc::{AllocError, Global};
 use std::collections::BTreeMap;
 use std::marker::Model;
+use use_lists::Items;
 use use_text::Place;
 
 /// The operations of each class by name, and where the classes stand.
@@ -19,7 +20,7 @@ use use_text::Place;
 struct Declared<'a> {
     decls: &'a Decls,
     places: Places,
-    ops: Vec<Groups<&'a OpDecl>>,
+    ops: Items<Groups<&'a OpDecl>>,
 }
 
 impl<'a> Model for Declared<'a> {
@@ -30,7 +31,7 @@ impl<'a> Model for Declared<'a> {
 
     ghost view = { λ d. d.decls.now };
 
-    ghost invariant = { λ d. IsDeclaredOf d.decls.now d.places d.ops.items };
+    ghost invariant = { λ d. IsDeclaredOf d.decls.now d.places d.ops };
 }
 
 /// The operations of a class by name.
@@ -64,7 +65,6 @@ fn has_signature(ops: &[&OpDecl], head: &OpDecl) -> bool
 }
 
 /// Whether the class of a name declares an operation of this head's name and types.
-#[tactic(auto, using(crate::proofs::ByName::head_found, crate::proofs::ByName::head_missing))]
 fn declares_head(declared: &Declared<'_>, class: &Text, head: &OpDecl) -> bool
     ensures { result ≡ declares_head declared.now class.now head.now }
 {
@@ -110,6 +110,10 @@ pub(crate) fn no_such_operation(alloc: Global, decls: &Decls) -> Result<Option<P
 {
     let places = class_places(alloc, decls)?;
     let ops = ops_of_all(alloc, decls.classes.as_slice())?;
-    let declared = Declared { decls, places, ops };
+    let declared = Declared {
+        decls,
+        places,
+        ops: Items::from_vec(ops),
+    };
     Ok(first_undeclared(&declared, decls.conds.as_slice()))
 }

@@ -5,4 +5,4 @@ use Rattle.class_decls.specs.Texts.{first_numbered}
 use Rattle.class_rules.proofs.by_class.first_broken_among.Given as goal
 
 abbrev pub invariant-classes : goal.invariant-classes
-invariant-classes l = first_numbered (broken_by l.rule l.hierarchy) 0 l.classes ≡ first_numbered (broken_by l.rule l.hierarchy) l.i (drop l.i l.classes)
+invariant-classes l = first_numbered (broken_by l.rule l.index) 0 l.classes ≡ first_numbered (broken_by l.rule l.index) l.i (drop l.i l.classes)

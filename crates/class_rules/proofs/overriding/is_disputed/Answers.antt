@@ -1,4 +1,4 @@
-use Rattle.std.proofs.Common.{sym, ◌∙◌, ap}
+use Rattle.std.proofs.Common.{sym, ◌∙◌}
 use Rattle.class_rules.specs.Ancestors.{parent_numbers}
 use Rattle.class_rules.proofs.Disputed.{alone_undisputed, last_disputed, not_last}
 use Rattle.class_rules.proofs.overriding.is_disputed.Goals as goal
