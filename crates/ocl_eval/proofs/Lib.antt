@@ -1,3 +1,6 @@
 mod Pairs
 mod Depth
 mod Literals
+pub mod Congruence
+pub mod Local
+pub mod More

@@ -3,4 +3,5 @@ pub mod Scenes
 pub mod Nodes
 pub mod Walks
 pub mod Evaluation
+pub mod Agreeing
 pub mod Parts
