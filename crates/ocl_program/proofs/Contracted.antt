@@ -79,7 +79,7 @@ longer rows i n row low is o =
     ∙ ap (λ l. l ++ n ∷ []) (sym (row_is rows i) ∙ ap (row_at rows) t.1)
     ∙ ap (λ b. row_at rows o ++ cond b (n ∷ []) []) (sym t.0))
     (λ t.
-    row_is (slice_set rows i row) o ∙ get_or-set_other rows o i row [] (λ e. t.1 (sym e)) ∙ sym (row_is rows o) ∙ sym (append-nil (row_at rows o))
+    row_is (slice_set rows i row) o ∙ get_or-set_other rows i o row [] (λ e. t.1 (sym e)) ∙ sym (row_is rows o) ∙ sym (append-nil (row_at rows o))
     ∙ ap (λ b. row_at rows o ++ cond b (n ∷ []) []) (sym t.0))
     (eqb_tells i o)
 
@@ -111,13 +111,13 @@ rows_more want rows n row size before here o h =
     (cases_lt o n)
 
 -- what one more element gives
-pub joined_more : {A B : Type 0} (f : A → List B) (xs : List A) (i : ℕ) (x : A) → i < length xs → x ≡ get_or xs i x →
-    flat_map f (take (i + 1) xs) ≡ flat_map f (take i xs) ++ f x
-joined_more f [] i x h e = absurd (omega arith)
-joined_more f (y ∷ ys) zero x h e = rw e (append-nil (f y))
-joined_more f (y ∷ ys) (suc i) x h e =
+pub joined_more : {A B : Type 0} (f : A → List B) (xs : List A) (i : ℕ) (d : A) → i < length xs →
+    flat_map f (take (i + 1) xs) ≡ flat_map f (take i xs) ++ f (get_or xs i d)
+joined_more f [] i d h = absurd (omega arith)
+joined_more f (y ∷ ys) zero d h = append-nil (f y)
+joined_more f (y ∷ ys) (suc i) d h =
     let k : suc i + 1 ≡ suc (i + 1) = omega arith in
-    rw k (ap (λ l. f y ++ l) (joined_more f ys i x (omega arith) e) ∙ sym (append_assoc (f y) (flat_map f (take i ys)) (f x)))
+    rw k (ap (λ l. f y ++ l) (joined_more f ys i d (omega arith)) ∙ sym (append_assoc (f y) (flat_map f (take i ys)) (f (get_or ys i d))))
 
 one_kept : {A : Type 0} (b : Bool) (x : A) → cons_option (cond b (Some x) None) [] ≡ cond b (x ∷ []) []
 one_kept true x = refl
@@ -128,7 +128,7 @@ pub declared_more : (name : List ℕ) (ops : List Operation) (i : ℕ) (op : Ope
     declared name (take (i + 1) ops) ≡ declared name (take i ops) ++ cond (same_text op.name name) ((op.class, i) ∷ []) []
 declared_more name ops i op h e =
     let z : 0 + i ≡ i = omega arith in
-    rw z at (chosen_more (λ p. cond (same_text p.1.name name) (Some (p.1.class, p.0)) None) 0 ops i op h e)
+    rw z at (chosen_more {B = ℕ × ℕ} (λ p. cond (same_text p.1.name name) (Some (p.1.class, p.0)) None) 0 ops i op h e)
     ∙ ap (λ l. declared name (take i ops) ++ l) (one_kept (same_text op.name name) (op.class, i))
 
 -- the contracts of an operation, from its class and its name

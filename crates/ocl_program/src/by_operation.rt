@@ -172,6 +172,7 @@ pub(crate) fn contract_rows(
     ensures { IfOk result (λ rows. AreRows parts.now rows) }
 {
     let model = &parts.model;
+    model.has_numbers_in_range();
     let ops = model.as_model().ops.as_slice();
     let own = own_contracts(alloc, parts.contracts.as_slice(), ops.len())?;
     let by_name = declarations_by_name(alloc, ops)?;

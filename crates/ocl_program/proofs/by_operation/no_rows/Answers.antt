@@ -5,7 +5,7 @@ use Rattle.ocl_program.proofs.by_operation.no_rows.Goals as goal
 
 pub rows-preserved : goal.rows-preserved
 rows-preserved c =
-    rw c.in_ok-push.ensures.items (
+    rw (c.in_ok-push.ensures.items, c.new.ensures) (
       size_more c.rows.rows.items c.rows._op _ c.rows.invariant.0,
       empty_more c.rows.rows.items c.rows.invariant.1,
     )
