@@ -1,1 +1,2 @@
 pub mod Contracted
+pub mod Literals

@@ -1,4 +1,6 @@
-ghost use Rattle.std.specs.Prelude.{◌≡◌, [], IfOk, None, length};
+ghost use Rattle.std.specs.Prelude.{◌≡◌, ◌<◌, [], ◌∷◌, All, IfOk, None, length, map};
+ghost use Rattle.std.specs.Option.{ForSome};
+ghost use Rattle.ocl_core.specs.Programs.{query_of};
 ghost use Rattle.class_model.specs.declared.object_model.ObjectModel.{ObjectModel as Model};
 ghost use Rattle.class_model.specs.InRange.{IsInRange};
 ghost use Rattle.ocl_program.specs.Programs.{IsCheckedNow, IsProgram, MayRead};
@@ -37,22 +39,41 @@ fn operation(alloc: Global, class: ClassNo) -> Result<Operation, AllocError>
     })
 }
 
-/// A class and one that inherits from it, which both declare an operation f.
+/// A class and one that inherits from it.
+fn classes(alloc: Global) -> Result<Items<Class>, AllocError>
+    ensures { IfOk result (λ cs. map (λ c. c.parents) cs ≡ [] ∷ (0 ∷ []) ∷ []) }
+{
+    let mut classes = Items::new(alloc);
+    classes.push(class(alloc, &[])?)?;
+    classes.push(class(alloc, &[0])?)?;
+    Ok(classes)
+}
+
+/// Both declare the operation f.
+fn ops(alloc: Global) -> Result<Items<Operation>, AllocError>
+    ensures size { IfOk result (λ os. length os ≡ 2) }
+    ensures fit { IfOk result (All (λ o. (o.class < 2) × (o.params ≡ []) × (o.result_type ≡ None))) }
+{
+    let mut ops = Items::new(alloc);
+    ops.push(operation(alloc, 0)?)?;
+    ops.push(operation(alloc, 1)?)?;
+    Ok(ops)
+}
+
+/// A model of both.
 fn declared(alloc: Global) -> Result<ObjectModel, AllocError>
     ensures in_range { IfOk result IsInRange }
     ensures classes { IfOk result (λ m. length m.classes ≡ 2) }
     ensures ops { IfOk result (λ m. length m.ops ≡ 2) }
     ensures derived { IfOk result (λ m. m.derived ≡ []) }
 {
-    let classes = vec![in alloc; class(alloc, &[])?, class(alloc, &[0])?]?;
-    let ops = vec![in alloc; operation(alloc, 0)?, operation(alloc, 1)?]?;
     Ok(ObjectModel {
         name: Text::copy_of(alloc, "M")?,
         enums: Items::new(alloc),
-        classes: Items::from_vec(classes),
+        classes: classes(alloc)?,
         attrs: Items::new(alloc),
         derived: Items::new(alloc),
-        ops: Items::from_vec(ops),
+        ops: ops(alloc)?,
         assocs: Items::new(alloc),
     })
 }
@@ -88,18 +109,43 @@ fn invariant(alloc: Global, class: ClassNo) -> Result<Invariant, AllocError>
 }
 
 /// The first and the third contract are of the first class's f, the second of the other's.
+fn contracts(alloc: Global) -> Result<Items<Contract>, AllocError>
+    ensures size { IfOk result (λ cs. length cs ≡ 3) }
+    ensures fit { IfOk result (All (λ c. (c.op < 2) × ((m : Model) → MayRead c.is_post m c.expr))) }
+{
+    let mut contracts = Items::new(alloc);
+    contracts.push(contract(alloc, 0, false)?)?;
+    contracts.push(contract(alloc, 1, true)?)?;
+    contracts.push(contract(alloc, 0, true)?)?;
+    Ok(contracts)
+}
+
+fn invariants(alloc: Global) -> Result<Items<Invariant>, AllocError>
+    ensures { IfOk result (All (λ i. (i.class < 2) × ((m : Model) → IsCheckedNow m i.expr))) }
+{
+    let mut invariants = Items::new(alloc);
+    invariants.push(invariant(alloc, 1)?)?;
+    Ok(invariants)
+}
+
+fn bodies(alloc: Global) -> Result<Items<OpBody>, AllocError>
+    ensures size { IfOk result (λ bs. length bs ≡ 2) }
+    ensures fit { IfOk result (All (λ b. ForSome (query_of b) (λ e. (m : Model) → IsCheckedNow m e))) }
+{
+    let mut bodies = Items::new(alloc);
+    bodies.push(OpBody::None)?;
+    bodies.push(OpBody::Query(always()))?;
+    Ok(bodies)
+}
+
 fn parts(alloc: Global) -> Result<ProgramParts, AllocError>
     ensures { IfOk result IsProgram }
 {
-    let model = ClassModel::of(alloc, declared(alloc)?)?;
-    let invariants = vec![in alloc; invariant(alloc, 1)?]?;
-    let contracts = vec![in alloc; contract(alloc, 0, false)?, contract(alloc, 1, true)?, contract(alloc, 0, true)?]?;
-    let bodies = vec![in alloc; OpBody::None, OpBody::Query(always())]?;
     Ok(ProgramParts {
-        model,
-        invariants: Items::from_vec(invariants),
-        contracts: Items::from_vec(contracts),
-        bodies: Items::from_vec(bodies),
+        model: ClassModel::of(alloc, declared(alloc)?)?,
+        invariants: invariants(alloc)?,
+        contracts: contracts(alloc)?,
+        bodies: bodies(alloc)?,
         derived: Items::new(alloc),
     })
 }
