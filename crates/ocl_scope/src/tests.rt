@@ -1,18 +1,46 @@
 use super::*;
 use class_model::OclType;
+use ocl_rules::TypeFault;
 use ocl_values::{Text, Value};
 use std::test::Fail;
+use use_text::Family;
+
+mod calls;
+mod literals;
+mod names;
+mod sample;
+
+// What is told of a typing: a refusal by its code and its column.
+#[derive(Clone, Copy, Debug, PartialEq, Eq)]
+enum Told {
+    Fits,
+    Lacks,
+    Breaks(Family, u8, u32),
+}
+
+fn told<T>(given: &Result<T, TypeFault>) -> Told {
+    match given {
+        Ok(_) => Told::Fits,
+        Err(TypeFault::Memory) => Told::Lacks,
+        Err(TypeFault::Refused(refusal)) => Told::Breaks(
+            refusal.code.family,
+            refusal.code.number,
+            refusal.place.col,
+        ),
+    }
+}
 
 #[test]
-fn the_innermost_variable_of_a_name_is_found(rt: HostRuntime) -> Result<(), Fail> {
+fn what_is_left_takes_its_variables_along(rt: HostRuntime) -> Result<(), Fail> {
     let alloc = rt.alloc();
     let mut env = Environment::new(alloc);
     env.push(Some(Text::copy_of(alloc, "x")?), OclType::Int, false)?;
-    env.push(Some(Text::copy_of(alloc, "x")?), OclType::Str, false)?;
+    let scope = env.scope();
+    env.push(Some(Text::copy_of(alloc, "y")?), OclType::Str, false)?;
     assert_eq!(rt; env.size(), 2);
-    assert_eq!(rt; env.variables().len(), 2);
-    assert!(rt; env.variable_named("x").is_some());
-    assert!(rt; env.variable_named("y").is_none());
+    env.leave(scope);
+    assert_eq!(rt; env.size(), 1);
+    assert!(rt; env.variable_named("x").is_some() && env.variable_named("y").is_none());
     Ok(())
 }
 
