@@ -27,16 +27,10 @@ within_element t u e k number most is same h =
     let g : number + suc (levels u) < most = subst (λ n. number + n < most) (ap levels is ∙ levels_of_coll k u) h in
     subst (λ n. number + 1 + levels n < most) (sym same) (omega (arith, g))
 
-abbrev pub made : Kind → Expr → Expr → OclType → Typed
-made k source body t = record { expr = E.Iter Collect source 1 None body; of_type = T.Coll k t }
-
-pub collected_made : (t u e : OclType) (k l : Kind) (source s : Expr) (number : ℕ) (read inner : Typed) (body : Expr) (flat f : OclType) →
-    t ≡ T.Coll k u → e ≡ u → l ≡ collected_kind k → inner ≡ collected e (E.Local number) (number + 1) read → flat ≡ innermost inner.of_type →
-    s ≡ source → body ≡ inner.expr → f ≡ flat → made l s body f ≡ collected t source number read
-collected_made t u e k l source s number read inner body flat f is same kind_is inner_is flat_is s_is body_is f_is =
-    ap (λ x. made x s body f) kind_is ∙ ap (λ x. made (collected_kind k) x body f) s_is ∙ ap (λ x. made (collected_kind k) source x f) body_is
-    ∙ ap (made (collected_kind k) source inner.expr) (f_is ∙ flat_is)
-    ∙ ap (over k source) inner_is ∙ ap (λ x. over k source (collected x (E.Local number) (number + 1) read)) same
+pub collected_is : (t u e : OclType) (k : Kind) (source : Expr) (number : ℕ) (read inner : Typed) → t ≡ T.Coll k u → e ≡ u →
+    inner ≡ collected e (E.Local number) (number + 1) read → over k source inner ≡ collected t source number read
+collected_is t u e k source number read inner is same inner_is =
+    ap (over k source) (inner_is ∙ ap (λ x. collected x (E.Local number) (number + 1) read) same)
     ∙ sym (ap (λ x. collected x source number read) is ∙ collected_of_coll k u source number read)
 
 pub fewer : (t u e : OclType) (k : Kind) → t ≡ T.Coll k u → e ≡ u → levels e < levels t

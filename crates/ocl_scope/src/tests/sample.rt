@@ -1,4 +1,8 @@
 // A model of persons and companies, and an environment in it.
+ghost use Rattle.std.specs.Prelude.{◌≡◌, ◌<◌, [], IfOk, IfSome, length};
+ghost use Rattle.std.specs.List.{AllByRecursion};
+ghost use Rattle.class_model.specs.InRange.{IsTypeAmong};
+
 use crate::Environment;
 use class_decls::{BodyKind, Name};
 use class_model::{
@@ -18,7 +22,9 @@ pub fn name(alloc: Global, text: &str, col: u32) -> Result<Name, Fail> {
     })
 }
 
-fn enumeration(alloc: Global, text: &str, a: &str, b: &str) -> Result<Enumeration, Fail> {
+fn enumeration(alloc: Global, text: &str, a: &str, b: &str) -> Result<Enumeration, Fail>
+    ensures { IfOk result (λ e. length e.literals ≡ 2) }
+{
     Ok(Enumeration {
         name: Text::copy_of(alloc, text)?,
         literals: Items::from_vec(vec![in alloc;
@@ -28,7 +34,9 @@ fn enumeration(alloc: Global, text: &str, a: &str, b: &str) -> Result<Enumeratio
     })
 }
 
-fn class(alloc: Global, text: &str) -> Result<Class, Fail> {
+fn class(alloc: Global, text: &str) -> Result<Class, Fail>
+    ensures { IfOk result (λ c. c.parents ≡ []) }
+{
     Ok(Class {
         name: Text::copy_of(alloc, text)?,
         is_abstract: false,
@@ -36,12 +44,11 @@ fn class(alloc: Global, text: &str) -> Result<Class, Fail> {
     })
 }
 
-fn attribute(
-    alloc: Global,
-    class: ClassNo,
-    text: &str,
-    of_type: OclType,
-) -> Result<Attribute, Fail> {
+fn attribute(alloc: Global, class: ClassNo, text: &str, of_type: OclType) -> Result<Attribute, Fail>
+    requires class { class < 2 }
+    requires of_type { IsTypeAmong 2 2 of_type }
+    ensures { IfOk result (λ a. (a.class < 2) × IsTypeAmong 2 2 a.of_type) }
+{
     Ok(Attribute {
         name: Text::copy_of(alloc, text)?,
         of_type,
@@ -50,7 +57,9 @@ fn attribute(
 }
 
 // `label() : String`, a query.
-fn label(alloc: Global) -> Result<Operation, Fail> {
+fn label(alloc: Global) -> Result<Operation, Fail>
+    ensures { IfOk result (λ o. (o.class < 2) × AllByRecursion (λ p. IsTypeAmong 2 2 p.of_type) o.params × IfSome o.result_type (IsTypeAmong 2 2)) }
+{
     Ok(Operation {
         name: Text::copy_of(alloc, "label")?,
         params: Items::new(alloc),
@@ -61,7 +70,9 @@ fn label(alloc: Global) -> Result<Operation, Fail> {
 }
 
 // `rename(text : String)`, with statements.
-fn rename(alloc: Global) -> Result<Operation, Fail> {
+fn rename(alloc: Global) -> Result<Operation, Fail>
+    ensures { IfOk result (λ o. (o.class < 2) × AllByRecursion (λ p. IsTypeAmong 2 2 p.of_type) o.params × IfSome o.result_type (IsTypeAmong 2 2)) }
+{
     let text = Parameter {
         name: Text::copy_of(alloc, "text")?,
         of_type: OclType::Str,
@@ -80,7 +91,9 @@ fn end(
     class: ClassNo,
     role: &str,
     high: Option<i128>,
-) -> Result<AssociationEnd, Fail> {
+) -> Result<AssociationEnd, Fail>
+    ensures { IfOk result (λ e. e.class ≡ class) }
+{
     Ok(AssociationEnd {
         class,
         role: Text::copy_of(alloc, role)?,
@@ -92,7 +105,9 @@ fn end(
     })
 }
 
-fn job(alloc: Global) -> Result<Association, Fail> {
+fn job(alloc: Global) -> Result<Association, Fail>
+    ensures { IfOk result (λ a. (a.first.class < 2) × (a.second.class < 2)) }
+{
     Ok(Association {
         name: Text::copy_of(alloc, "Job")?,
         first: end(alloc, 0, "staff", None)?,
@@ -100,23 +115,45 @@ fn job(alloc: Global) -> Result<Association, Fail> {
     })
 }
 
-fn enums(alloc: Global) -> Result<Items<Enumeration>, Fail> {
+fn enums(alloc: Global) -> Result<Items<Enumeration>, Fail>
+    ensures { IfOk result (λ es. (length es ≡ 2) × AllByRecursion (λ e. length e.literals ≡ 2) es) }
+{
     let grade = enumeration(alloc, "Grade", "junior", "senior")?;
     let rank = enumeration(alloc, "Rank", "senior", "chief")?;
     Ok(Items::from_vec(vec![in alloc; grade, rank]?))
 }
 
-fn classes(alloc: Global) -> Result<Items<Class>, Fail> {
+fn classes(alloc: Global) -> Result<Items<Class>, Fail>
+    ensures { IfOk result (λ cs. (length cs ≡ 2) × AllByRecursion (λ c. c.parents ≡ []) cs) }
+{
     let person = class(alloc, "Person")?;
     let company = class(alloc, "Company")?;
     Ok(Items::from_vec(vec![in alloc; person, company]?))
 }
 
-fn attributes(alloc: Global) -> Result<Items<Attribute>, Fail> {
+fn attributes(alloc: Global) -> Result<Items<Attribute>, Fail>
+    ensures { IfOk result (λ attrs. (length attrs ≡ 3) × AllByRecursion (λ a. (a.class < 2) × IsTypeAmong 2 2 a.of_type) attrs) }
+{
     let name = attribute(alloc, 0, "name", OclType::Str)?;
     let other = attribute(alloc, 1, "name", OclType::Str)?;
     let size = attribute(alloc, 1, "size", OclType::Int)?;
     Ok(Items::from_vec(vec![in alloc; name, other, size]?))
+}
+
+fn operations(alloc: Global) -> Result<Items<Operation>, Fail>
+    ensures { IfOk result (λ ops. (length ops ≡ 2)
+        × AllByRecursion (λ o. (o.class < 2) × AllByRecursion (λ p. IsTypeAmong 2 2 p.of_type) o.params × IfSome o.result_type (IsTypeAmong 2 2)) ops) }
+{
+    let label = label(alloc)?;
+    let rename = rename(alloc)?;
+    Ok(Items::from_vec(vec![in alloc; label, rename]?))
+}
+
+fn assocs(alloc: Global) -> Result<Items<Association>, Fail>
+    ensures { IfOk result (λ assocs. (length assocs ≡ 1) × AllByRecursion (λ a. (a.first.class < 2) × (a.second.class < 2)) assocs) }
+{
+    let job = job(alloc)?;
+    Ok(Items::from_vec(vec![in alloc; job]?))
 }
 
 pub fn model(alloc: Global) -> Result<ClassModel, Fail> {
@@ -126,8 +163,8 @@ pub fn model(alloc: Global) -> Result<ClassModel, Fail> {
         classes: classes(alloc)?,
         attrs: attributes(alloc)?,
         derived: Items::new(alloc),
-        ops: Items::from_vec(vec![in alloc; label(alloc)?, rename(alloc)?]?),
-        assocs: Items::from_vec(vec![in alloc; job(alloc)?]?),
+        ops: operations(alloc)?,
+        assocs: assocs(alloc)?,
     };
     Ok(ClassModel::of(alloc, model)?)
 }

@@ -1,7 +1,7 @@
-use Rattle.std.proofs.Common.{rules, ◌≡◌, ◌+◌, ◌<◌, ◌∙◌, sym, ap, arith, ℕ, refl}
+use Rattle.std.proofs.Common.{rules, ◌≡◌, ◌+◌, ◌<◌, ◌∙◌, arith, refl}
+use Rattle.std.proofs.lemmas.Result.{IfOk-weaker}
 use Rattle.ocl_scope.specs.Collected.{collected}
-use Rattle.ocl_scope.proofs.Collections.{collected_made, within_element, fewer}
-use Rattle.ocl_core.specs.declared.expression.Expr.TheVariants as E
+use Rattle.ocl_scope.proofs.Collections.{collected_is, fewer, over, within_element}
 use Rattle.ocl_scope.proofs.hidden.+collected.Goals as goal
 
 pub overflow_add-number : goal.overflow_add-number
@@ -15,8 +15,9 @@ collected-requires t c = (
   within_element c.args.of_type.now c.in-Coll.element c.get.result.now c.in-Coll.kind c.args.number 4294967296 c.in-Coll.is c.get.ensures c.requires,
 )
 
-pub returns-in_ok-new-in-Coll : goal.returns-in_ok-new-in-Coll
-returns-in_ok-new-in-Coll t c =
-    collected_made c.args.of_type.now c.in-Coll.element c.get.result.now c.in-Coll.kind c.collected_kind.result c.args.source c.in_ok-source-in-Coll.source c.args.number c.args.read
-    c.in_ok-inner-in-Coll.inner c.in_ok-body-in-Coll.body c.in_ok-flat-in-Coll.flat c.in_ok-new-in-Coll.field-0 c.in-Coll.is c.get.ensures
-    c.collected_kind.ensures c.in_ok-inner-in-Coll.ensures c.in_ok-flat-in-Coll.ensures c.in_ok-source-in-Coll.ensures c.in_ok-body-in-Coll.ensures c.in_ok-new-in-Coll.ensures
+pub returns-in_ok-inner-in-Coll : goal.returns-in_ok-inner-in-Coll
+returns-in_ok-inner-in-Coll t c =
+    IfOk-weaker c.collected_once.result (λ x. x ≡ over c.in-Coll.kind c.args.source c.in_ok-inner-in-Coll.inner)
+    (λ x. x ≡ collected c.args.of_type.now c.args.source c.args.number c.args.read)
+    (λ x e. e ∙ collected_is c.args.of_type.now c.in-Coll.element c.get.result.now c.in-Coll.kind c.args.source c.args.number c.args.read
+    c.in_ok-inner-in-Coll.inner c.in-Coll.is c.get.ensures c.in_ok-inner-in-Coll.ensures) c.collected_once.ensures
