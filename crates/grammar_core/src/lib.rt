@@ -12,6 +12,7 @@ mod machine;
 mod marks;
 mod node;
 mod parser;
+mod repeated;
 mod table;
 mod tree;
 

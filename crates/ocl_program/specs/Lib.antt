@@ -1,0 +1,3 @@
+pub mod ContractRows
+pub mod Programs
+pub mod Indexed

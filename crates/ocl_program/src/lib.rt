@@ -1,0 +1,10 @@
+//! The program of a model: its checked parts, and the contracts that each operation has.
+#![tactic(auto)]
+
+mod by_operation;
+mod program;
+
+pub use program::Program;
+
+#[cfg(test)]
+mod tests;
