@@ -66,7 +66,7 @@ module _ (now now' : Cell → Look) where
     same = λ m g. ap (λ r. then_with r f') (xs.same m (λ c h. g c (kept_then f f' fs (x m) c h))) ∙ same_then f f' fs (x m) g;
   }
 
-  same_exhausted : {A : Type 0} → Local (exhausted {A}) exhausted
+  same_exhausted : {A : Type 0} → Local {A = A} exhausted exhausted
   same_exhausted = record { keeps = λ m c h. h; same = λ m g. refl }
 
   spent_keeps : (b : Bool) (n : ℕ) (m : Meter) (c : Cell) → has_cell m.reads c ≡ true →
@@ -91,17 +91,17 @@ module _ (now now' : Cell → Look) where
   module _ (p : ProgramParts) (pre : Cell → Look) where
     now_keeps : (b : Bool) (k : Cell) (m : Meter) (c : Cell) → has_cell m.reads c ≡ true →
         has_cell (then_with (then_with (cond {A = Outcome (Unit {0})} b (Some tt, record m { fuel = m.fuel - 1 }) (None, m))
-        (λ _ n. (Some tt, record n { reads = insert_key cell_cmp n.reads k }))) (λ _. pure (now k))).1.reads c ≡ true
+        (λ u n. (Some u, record n { reads = insert_key cell_cmp n.reads k }))) (λ _. pure (now k))).1.reads c ≡ true
     now_keeps true k m c h = kept_cell m.reads k c h
     now_keeps false k m c h = h
 
     now_same : (b : Bool) (k : Cell) (m : Meter) →
         AgreeOn (then_with (then_with (cond {A = Outcome (Unit {0})} b (Some tt, record m { fuel = m.fuel - 1 }) (None, m))
-        (λ _ n. (Some tt, record n { reads = insert_key cell_cmp n.reads k }))) (λ _. pure (now k))).1.reads now now' →
+        (λ u n. (Some u, record n { reads = insert_key cell_cmp n.reads k }))) (λ _. pure (now k))).1.reads now now' →
         then_with (then_with (cond {A = Outcome (Unit {0})} b (Some tt, record m { fuel = m.fuel - 1 }) (None, m))
-        (λ _ n. (Some tt, record n { reads = insert_key cell_cmp n.reads k }))) (λ _. pure (now' k))
+        (λ u n. (Some u, record n { reads = insert_key cell_cmp n.reads k }))) (λ _. pure (now' k))
         ≡ then_with (then_with (cond {A = Outcome (Unit {0})} b (Some tt, record m { fuel = m.fuel - 1 }) (None, m))
-        (λ _ n. (Some tt, record n { reads = insert_key cell_cmp n.reads k }))) (λ _. pure (now k))
+        (λ u n. (Some u, record n { reads = insert_key cell_cmp n.reads k }))) (λ _. pure (now k))
     now_same true k m g = ap (λ l. (Some l, record m { fuel = m.fuel - 1; reads = insert_key cell_cmp m.reads k })) (g k (new_cell m.reads k))
     now_same false k m g = refl
 
@@ -115,7 +115,7 @@ module _ (now now' : Cell → Look) where
     unfolding ev
     local_at zero at env e = same_exhausted
     local_at (suc n) at env e =
-        node_alike p now pre now' pre Local same_pure same_bind same_spend same_range same_look at (ev (scene_of p now pre) n) (ev (scene_of p now' pre) n)
+        node_alike p now pre now' pre (λ A. Local {A = A}) (λ A. same_pure {A = A}) (λ A B. same_bind {A = A} {B = B}) same_spend same_range same_look at (ev (scene_of p now pre) n) (ev (scene_of p now' pre) n)
         (local_at n) env e
 
     -- states that agree on what was read give the same

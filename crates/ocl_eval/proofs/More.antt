@@ -92,10 +92,12 @@ module _ (k : ℕ) where
 
     more_at : (j n : ℕ) (at : When) (env : List Value) (e : Expr) → Grows (ev (scene_of p now pre) n at env e) (ev (scene_of p now pre) (j + n) at env e)
     unfolding ev
-    more_at j zero at env e m = tt
+    more_at j zero at env e = λ m. tt
     more_at j (suc n) at env e =
-        node_alike p now pre now pre Grows more_pure more_bind more_spend more_range more_look at (ev (scene_of p now pre) n) (ev (scene_of p now pre) (j + n))
-        (more_at j n) env e
+        let z : suc (j + n) ≡ j + suc n = omega arith in
+        subst (λ (l : ℕ). Grows (ev (scene_of p now pre) (suc n) at env e) (ev (scene_of p now pre) l at env e)) z (node_alike p now pre now pre
+        (λ A. Grows {A = A}) (λ A. more_pure {A = A}) (λ A B. more_bind {A = A} {B = B}) more_spend more_range more_look at (ev (scene_of p now pre) n)
+        (ev (scene_of p now pre) (j + n)) (more_at j n) env e)
 
     -- what is done at a level stays so
     pub stays_done : (j n : ℕ) (at : When) (env : List Value) (e : Expr) (m left : Meter) (v : Value) →
