@@ -17,4 +17,3 @@ pub mod Emptiness
 pub mod Unfitness
 pub mod Yield
 pub mod Certified
-pub mod Reaching

@@ -9,7 +9,6 @@ pub mod Derives
 pub mod Choices
 pub mod Arena
 pub mod Answers
-pub mod Repetitions
 pub mod Tasks
 pub mod Parses
 pub mod Certificate

@@ -1,14 +1,12 @@
 ghost use Rattle.std.specs.Prelude.{◌≡◌, ◌≤◌, ◌<◌, length, slice_get, Some, IfOk, IfErr, IsTrue};
 ghost use Rattle.grammar_core.specs.declared.table.Prod.TheVariants.{Case, Star};
 ghost use Rattle.grammar_core.specs.Derives.{begins, branch_of, kinds};
-ghost use Rattle.grammar_core.specs.Repetitions.{repeated_parts};
 ghost use Rattle.grammar_core.specs.Tables.{rule_at, table_of};
 ghost use Rattle.grammar_core.specs.Unfit.{all_inside, IsGrammarFault, IsFit};
 
 use crate::choices::{Cells, all_cells, told_choice};
 use crate::fitness::first_unfit;
 use crate::lookup::{begins, branch_of};
-use crate::repeated::{Parts, all_parts};
 use crate::{Branch, GrammarFault, Prod, Rule, Table};
 use std::alloc::{AllocError, Global};
 use std::marker::Model;
@@ -21,22 +19,18 @@ pub struct Grammar {
     table: Table,
     /// What each choice leads to, by the kind of the next token.
     cells: Vec<Cells>,
-    /// The parts of each production that is one part and a repetition.
-    parts: Vec<Option<Parts>>,
 }
 
 impl Model for Grammar {
     ghost use Rattle.grammar_core.specs.declared.table.Table.{Table};
     ghost use Rattle.grammar_core.specs.Choices.{AreByKind};
-    ghost use Rattle.grammar_core.specs.Repetitions.{all_parts};
     ghost use Rattle.grammar_core.specs.Unfit.{IsFit};
-    ghost use Rattle.std.specs.Prelude.{◌≡◌};
 
     ghost Value = { Table };
 
     ghost view = { λ g. g.table };
 
-    ghost invariant = { λ g. IsFit g.table × AreByKind g.table.prods g.cells.items × (g.parts.items ≡ all_parts g.table) };
+    ghost invariant = { λ g. IsFit g.table × AreByKind g.table.prods g.cells.items };
 }
 
 impl Grammar {
@@ -92,12 +86,7 @@ impl Grammar {
         ensures { IfOk result (λ g. g ≡ table) }
     {
         let cells = all_cells(alloc, table.prods.as_slice())?;
-        let parts = all_parts(alloc, &table)?;
-        Ok(Grammar {
-            table,
-            cells,
-            parts,
-        })
+        Ok(Grammar { table, cells })
     }
 
     pub(crate) fn table(&self) -> &Table
@@ -124,14 +113,6 @@ impl Grammar {
         let to = self.table.rules.as_slice()[r as usize];
         let nests = self.table.nests.as_slice()[r as usize];
         Rule { to, nests }
-    }
-
-    /// The parts of a production that is one part and a repetition.
-    pub(crate) fn parts(&self, p: u16) -> Option<Parts>
-        requires { p < length self.now.prods }
-        ensures { result ≡ repeated_parts self.now p }
-    {
-        self.parts[p as usize]
     }
 
     /// The production of the branch that is taken at a place.

@@ -12,7 +12,6 @@ mod machine;
 mod marks;
 mod node;
 mod parser;
-mod repeated;
 mod table;
 mod tree;
 

@@ -1,20 +1,16 @@
-ghost use Rattle.std.specs.Prelude.{◌≡◌, ◌+◌, ◌-◌, ◌<◌, ◌^◌, ◌++◌, [], ◌∷◌, List, ℕ, length, reverse, MatchOption, MatchResult, Some, option_to_list, slice_get, ⊤};
+ghost use Rattle.std.specs.Prelude.{◌≡◌, ◌+◌, ◌-◌, ◌<◌, ◌^◌, ◌++◌, [], ◌∷◌, length, reverse, MatchOption, MatchResult, Some, option_to_list, slice_get, ⊤};
 ghost use Rattle.grammar_core.specs.Answers.{of_production, whole};
 ghost use Rattle.grammar_core.specs.Arena.{read_trees};
 ghost use Rattle.grammar_core.specs.Derives.{kinds};
-ghost use Rattle.grammar_core.specs.Tasks.{AreTasks, Begun, IsStar, IsTask, Stepped, answer_at, reads, rule_tasks, task, Meets};
-ghost use Rattle.grammar_core.specs.declared.machine.Task.TheVariants.{Read, Repeat};
+ghost use Rattle.grammar_core.specs.Tasks.{AreTasks, IsStar, IsTask, Stepped, answer_at, reads, repeated_parts, rule_tasks, task, Meets};
+ghost use Rattle.grammar_core.specs.declared.machine.Task.TheVariants.{Repeat};
 ghost use Rattle.grammar_core.specs.Unfit.{IsFit};
 ghost use Rattle.grammar_core.specs.declared.table.Prod.TheVariants.{Call};
 
 use crate::builder::Builder;
 use crate::lookup::{level_in, next_is};
-use crate::repeated::Parts;
 use crate::{Grammar, ParseFault, Prod};
 use use_text::Token;
-
-/// How many rules and choices are begun in one step at most.
-const MOST_BEGUN: u8 = 32;
 
 /// What is still to be done.
 #[derive(Clone, Copy, Debug, PartialEq, Eq)]
@@ -33,6 +29,13 @@ pub(crate) struct Position {
     pub(crate) prod: u16,
     pub(crate) level: u8,
     pub(crate) at: u32,
+}
+
+/// The two parts of a rule: what is read first, and a repetition behind it.
+#[derive(Clone, Copy)]
+pub(crate) struct Parts {
+    pub(crate) first: u16,
+    pub(crate) repeated: u16,
 }
 
 /// What a parse works on: the tasks that are left, the next one last, and the trees so far.
@@ -96,106 +99,49 @@ fn take_next(stack: &mut Vec<Task>, next: Option<Task>) -> Option<Task>
     }
 }
 
-/// Leaves the end of a rule to be done, and says what it reads first.
-fn put_rule(g: &Grammar, r: u16, to: u16, level: u8, work: &mut Work) -> Result<u16, ParseFault>
+/// The parts of a production that is one part and a repetition.
+fn repeated_parts(g: &Grammar, p: u16) -> Option<Parts>
+    requires fit { IsFit g.now }
+    requires inside { p < length g.now.prods }
+    ensures { result ≡ repeated_parts g.now p }
+{
+    let Prod::Seq(ps) = g.prod(p) else {
+        return None;
+    };
+    let [first, last] = ps.as_slice() else {
+        return None;
+    };
+    match g.prod(*last) {
+        Prod::Star(_, _) => Some(Parts {
+            first: *first,
+            repeated: *last,
+        }),
+        _ => None,
+    }
+}
+
+/// Leaves what a rule reads to be done, and its end.
+fn put_rule(g: &Grammar, r: u16, to: u16, level: u8, work: &mut Work) -> Result<Task, ParseFault>
     requires fit { IsFit g.now }
     requires inside { to < length g.now.prods }
-    ensures { MatchResult result (λ first. (work.new.stack.items ++ Read first level ∷ []
+    ensures { MatchResult result (λ next. (work.new.stack.items ++ next ∷ []
         ≡ work.old.stack.items ++ rule_tasks g.now r to level (length (read_trees work.old.built)))
         × (work.new.built ≡ work.old.built)) (λ e. e ≡ ParseFault.Memory) }
 {
     let start = work.built.len() as u64;
-    match g.parts(to) {
+    match repeated_parts(g, to) {
         Some(Parts { first, repeated }) => {
             put(&mut work.stack, Task::Repeat(repeated, level, r, start))?;
-            Ok(first)
+            Ok(Task::Read(first, level))
         }
         None => {
             put(&mut work.stack, Task::Close(r, start))?;
-            Ok(to)
+            Ok(Task::Read(to, level))
         }
     }
 }
 
-/// Begins the rule that is called here, unless it would nest too deep.
-fn begin_call(
-    g: &Grammar,
-    r: u16,
-    here: Position,
-    work: &mut Work,
-) -> Result<Option<Position>, ParseFault>
-    requires fit { IsFit g.now }
-    requires is { slice_get g.now.prods here.prod ≡ Some (Call r) }
-    requires all { AreTasks g.now work.old.stack.items }
-    ensures { MatchResult result (λ o. MatchOption o (work.new ≡ work.old) (λ next. (ks : List ℕ) → Begun g.now ks here next work.old work.new))
-        (λ e. e ≡ ParseFault.Memory) }
-{
-    let rule = g.rule_in(r);
-    match level_in(rule, here.level) {
-        Some(level) => {
-            let prod = put_rule(g, r, rule.to, level, work)?;
-            Ok(Some(Position {
-                prod,
-                level,
-                at: here.at,
-            }))
-        }
-        None => Ok(None),
-    }
-}
-
-/// Begins what is read here, where it is a rule or a choice, and says what is read first then.
-fn begin(
-    g: &Grammar,
-    tokens: &[Token],
-    here: Position,
-    work: &mut Work,
-) -> Result<Option<Position>, ParseFault>
-    requires fit { IsFit g.now }
-    requires inside { here.prod < length g.now.prods }
-    requires all { AreTasks g.now work.old.stack.items }
-    ensures { MatchResult result (λ o. MatchOption o (work.new ≡ work.old) (λ next. Begun g.now (kinds tokens.now) here next work.old work.new))
-        (λ e. e ≡ ParseFault.Memory) }
-{
-    match g.prod(here.prod) {
-        Prod::Call(r) => begin_call(g, *r, here, work),
-        Prod::Case(branches, other) => {
-            match g.branch_at(tokens, here.at, here.prod, branches.as_slice(), *other) {
-                Some(prod) => Ok(Some(Position {
-                    prod,
-                    level: here.level,
-                    at: here.at,
-                })),
-                None => Ok(None),
-            }
-        }
-        Prod::Tok(_) | Prod::Seq(_) | Prod::Star(_, _) => Ok(None),
-    }
-}
-
-/// Begins rules and choices, one as the first part of another, and says what is read first then.
-fn begin_all(
-    g: &Grammar,
-    tokens: &[Token],
-    here: Position,
-    work: &mut Work,
-) -> Result<Position, ParseFault>
-    requires fit { IsFit g.now }
-    requires all { AreTasks g.now (work.old.stack.items ++ Read here.prod here.level ∷ []) }
-    ensures { MatchResult result (λ next. Begun g.now (kinds tokens.now) here next work.old work.new) (λ e. e ≡ ParseFault.Memory) }
-{
-    let mut next = here;
-    'begun: for _ in 0..MOST_BEGUN {
-        match begin(g, tokens, next, work) {
-            Ok(Some(inner)) => next = inner,
-            Ok(None) => return Ok(next),
-            Err(fault) => return Err(fault),
-        }
-    }
-    Ok(next)
-}
-
-/// Begins a rule, and the rules and choices that are its first part.
+/// Begins a rule. Where it is one part and a repetition, the part comes next.
 fn step_rule(
     g: &Grammar,
     tokens: &[Token],
@@ -210,17 +156,11 @@ fn step_rule(
 {
     let rule = g.rule_in(r);
     match level_in(rule, here.level) {
-        Some(level) => {
-            let prod = put_rule(g, r, rule.to, level, work)?;
-            let inner = Position {
-                prod,
-                level,
-                at: here.at,
-            };
-            let next = begin_all(g, tokens, inner, work)?;
+        Some(inner) => {
+            let next = put_rule(g, r, rule.to, inner, work)?;
             Ok(Done {
                 at: here.at,
-                next: Some(Task::Read(next.prod, next.level)),
+                next: Some(next),
             })
         }
         None => Err(ParseFault::Deep { token: here.at }),
