@@ -1,10 +1,8 @@
 use super::*;
 
 mod faults;
-mod inverses;
 mod samples;
 mod walks;
-mod worlds;
 
 use object_state::{AssocLayout, ClassLayout, Layout, StateReader, StoreFault, creation, linking};
 use ocl_values::Text;

@@ -41,7 +41,7 @@ fn a_change_that_does_not_fit_has_its_first_fault(rt: HostRuntime) -> Result<(),
     let (mut plain, mut store) = stores(alloc)?;
     'rows: for at in 0..24u32 {
         let (asked, fault) = row(at);
-        let found = step(alloc, &mut plain, &mut store, asked, 1)?;
+        let found = step(alloc, &mut plain, &mut store, asked, false)?;
         assert!(rt; found == [fault, fault], "in row {at}");
     }
     Ok(())

@@ -80,35 +80,33 @@ fn all_same(alloc: Global, plain: &PlainStore, store: &Store) -> Result<bool, Al
     )
 }
 
-/// Carries a change out in both stores, then what takes it back, then what takes that back, and so
-/// on: so many changes in all.
-fn carry_out_in_turn(
+/// Carries a change out in both stores, and takes it back if asked.
+fn carry_out_or_back(
     plain: &mut PlainStore,
     store: &mut Store,
     first: Change,
     second: Change,
-    count: u32,
+    is_undone: bool,
 ) -> Result<(), AllocError>
     requires same { plain.old ≡ store.old }
     requires equal { second ≡ first }
     requires fits { Fits plain.old.layout plain.old.state first }
     ensures { OnOk result (plain.new ≡ store.new) }
 {
-    let mut both = (first, second);
-    'turns: for _turn in 0..count {
-        both = carry_out(plain, store, both.0, both.1)?;
+    let (back, also) = carry_out(plain, store, first, second)?;
+    if is_undone {
+        carry_out(plain, store, back, also)?;
     }
     Ok(())
 }
 
-/// Carries a change out in both stores where it fits, and takes it back and carries it out in turn;
-/// tells the fault that each finds.
+/// Carries a change out in both stores where it fits, and tells the fault that each finds.
 fn try_change(
     plain: &mut PlainStore,
     store: &mut Store,
     first: Change,
     second: Change,
-    count: u32,
+    is_undone: bool,
 ) -> Result<[Option<StoreFault>; 2], AllocError>
     requires same { plain.old ≡ store.old }
     requires equal { second ≡ first }
@@ -117,28 +115,27 @@ fn try_change(
 {
     match (plain.fits(&first), store.fits(&second)) {
         (Ok(()), Ok(())) => {
-            carry_out_in_turn(plain, store, first, second, count)?;
+            carry_out_or_back(plain, store, first, second, is_undone)?;
             Ok([None, None])
         }
         (found, also) => Ok([found.err(), also.err()]),
     }
 }
 
-/// Does what is asked in both stores where it fits, takes it back and does it again in turn, so many
-/// changes in all; tells the fault that each finds.
+/// Does what is asked in both stores where it fits, and tells the fault that each finds.
 pub fn step(
     alloc: Global,
     plain: &mut PlainStore,
     store: &mut Store,
     asked: Move,
-    count: u32,
+    is_undone: bool,
 ) -> Result<[Option<StoreFault>; 2], AllocError>
     requires { plain.old ≡ store.old }
     ensures { OnOk result (plain.new ≡ store.new) }
 {
     match proposed(alloc, plain, store, asked)? {
         None => Ok([None, None]),
-        Some((first, second)) => try_change(plain, store, first, second, count),
+        Some((first, second)) => try_change(plain, store, first, second, is_undone),
     }
 }
 
@@ -168,11 +165,6 @@ fn asked(seed: u64) -> Move {
     }
 }
 
-/// How many changes in turn a seed asks: each fourth step is taken back.
-fn turns(seed: u64) -> u32 {
-    if (seed >> 60) % 4 == 0 { 2 } else { 1 }
-}
-
 /// Walks so far with both stores, where each fourth step is taken back, and tells the step after
 /// which they first differ.
 fn walk(alloc: Global, start: u64, steps: u32) -> Result<Option<u32>, AllocError> {
@@ -180,7 +172,13 @@ fn walk(alloc: Global, start: u64, steps: u32) -> Result<Option<u32>, AllocError
     let mut seed = next(start);
     'steps: for at in 0..steps {
         seed = next(seed);
-        let [found, also] = step(alloc, &mut plain, &mut store, asked(seed), turns(seed))?;
+        let [found, also] = step(
+            alloc,
+            &mut plain,
+            &mut store,
+            asked(seed),
+            (seed >> 60) % 4 == 0,
+        )?;
         if found != also || !all_same(alloc, &plain, &store)? {
             return Ok(Some(at));
         }

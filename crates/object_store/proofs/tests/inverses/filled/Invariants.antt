@@ -1,5 +1,0 @@
-use Rattle.std.proofs.Common.{◌≡◌}
-use Rattle.object_store.proofs.tests.inverses.filled.Given as goal
-
-abbrev pub invariant-moves : goal.invariant-moves
-invariant-moves l = l.plain ≡ l.store
