@@ -1,2 +1,1 @@
 pub mod Contracted
-pub mod Literals

@@ -5,6 +5,3 @@ mod by_operation;
 mod program;
 
 pub use program::Program;
-
-#[cfg(test)]
-mod tests;
