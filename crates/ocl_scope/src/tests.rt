@@ -12,17 +12,17 @@ mod sample;
 
 // What is told of a typing: a refusal by its code and its column.
 #[derive(Clone, Copy, Debug, PartialEq, Eq)]
-enum Told {
+enum Outcome {
     Fits,
     Lacks,
     Breaks(Family, u8, u32),
 }
 
-fn told<T>(given: &Result<T, TypeFault>) -> Told {
+fn told<T>(given: &Result<T, TypeFault>) -> Outcome {
     match given {
-        Ok(_) => Told::Fits,
-        Err(TypeFault::Memory) => Told::Lacks,
-        Err(TypeFault::Refused(refusal)) => Told::Breaks(
+        Ok(_) => Outcome::Fits,
+        Err(TypeFault::Memory) => Outcome::Lacks,
+        Err(TypeFault::Refused(refusal)) => Outcome::Breaks(
             refusal.code.family,
             refusal.code.number,
             refusal.place.col,

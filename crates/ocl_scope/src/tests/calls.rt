@@ -1,5 +1,5 @@
 use super::sample::{environment, model, name};
-use super::{Told, told};
+use super::{Outcome, told};
 use crate::{Given, TypeArgument, call_rule, collected, hidden_element, implicit_call};
 use class_model::OclType;
 use ocl_core::Expr;
@@ -29,16 +29,16 @@ fn integers(alloc: Global, count: u32) -> Result<Given, Fail> {
 #[test]
 fn a_call_is_one_of_its_source(rt: HostRuntime) -> Result<(), Fail> {
     let rows = [
-        ("nobody", 0, Told::Breaks(Family::N, 2, 5)),
-        ("abs", 0, Told::Breaks(Family::N, 2, 5)),
-        ("name", 0, Told::Breaks(Family::N, 2, 5)),
-        ("label", 1, Told::Breaks(Family::T, 2, 5)),
-        ("rename", 1, Told::Breaks(Family::T, 3, 5)),
-        ("isDefined", 1, Told::Breaks(Family::T, 2, 5)),
-        ("oclIsNew", 1, Told::Breaks(Family::T, 2, 5)),
-        ("oclIsNew", 0, Told::Breaks(Family::T, 9, 5)),
-        ("label", 0, Told::Fits),
-        ("isDefined", 0, Told::Fits),
+        ("nobody", 0, Outcome::Breaks(Family::N, 2, 5)),
+        ("abs", 0, Outcome::Breaks(Family::N, 2, 5)),
+        ("name", 0, Outcome::Breaks(Family::N, 2, 5)),
+        ("label", 1, Outcome::Breaks(Family::T, 2, 5)),
+        ("rename", 1, Outcome::Breaks(Family::T, 3, 5)),
+        ("isDefined", 1, Outcome::Breaks(Family::T, 2, 5)),
+        ("oclIsNew", 1, Outcome::Breaks(Family::T, 2, 5)),
+        ("oclIsNew", 0, Outcome::Breaks(Family::T, 9, 5)),
+        ("label", 0, Outcome::Fits),
+        ("isDefined", 0, Outcome::Fits),
     ];
     let model = model(rt.alloc())?;
     for (text, count, want) in rows {
@@ -54,12 +54,12 @@ fn a_call_is_one_of_its_source(rt: HostRuntime) -> Result<(), Fail> {
 #[test]
 fn an_operation_of_a_value_fits_its_type(rt: HostRuntime) -> Result<(), Fail> {
     let rows = [
-        ("size", 0, Told::Breaks(Family::N, 2, 5)),
-        ("label", 0, Told::Breaks(Family::N, 2, 5)),
-        ("abs", 1, Told::Breaks(Family::T, 2, 5)),
-        ("max", 0, Told::Breaks(Family::T, 2, 5)),
-        ("max", 1, Told::Fits),
-        ("abs", 0, Told::Fits),
+        ("size", 0, Outcome::Breaks(Family::N, 2, 5)),
+        ("label", 0, Outcome::Breaks(Family::N, 2, 5)),
+        ("abs", 1, Outcome::Breaks(Family::T, 2, 5)),
+        ("max", 0, Outcome::Breaks(Family::T, 2, 5)),
+        ("max", 1, Outcome::Fits),
+        ("abs", 0, Outcome::Fits),
     ];
     let model = model(rt.alloc())?;
     for (text, count, want) in rows {
@@ -82,11 +82,11 @@ fn an_operation_of_a_value_fits_its_type(rt: HostRuntime) -> Result<(), Fail> {
 #[test]
 fn no_call_but_of_a_new_object_is_one_of_before(rt: HostRuntime) -> Result<(), Fail> {
     let rows = [
-        ("label", true, Told::Breaks(Family::T, 9, 5)),
-        ("isDefined", true, Told::Breaks(Family::T, 9, 5)),
-        ("oclIsNew", true, Told::Breaks(Family::T, 9, 5)),
-        ("oclIsNew", false, Told::Fits),
-        ("label", false, Told::Fits),
+        ("label", true, Outcome::Breaks(Family::T, 9, 5)),
+        ("isDefined", true, Outcome::Breaks(Family::T, 9, 5)),
+        ("oclIsNew", true, Outcome::Breaks(Family::T, 9, 5)),
+        ("oclIsNew", false, Outcome::Fits),
+        ("label", false, Outcome::Fits),
     ];
     let model = model(rt.alloc())?;
     for (text, is_before, want) in rows {
@@ -103,7 +103,7 @@ fn types(alloc: Global, given: TypeArgument) -> Result<Given, Fail> {
     Ok(Given::Types(Items::from_vec(vec![in alloc; given]?), true))
 }
 
-fn test_of(alloc: Global, given: Given) -> Result<Told, Fail> {
+fn test_of(alloc: Global, given: Given) -> Result<Outcome, Fail> {
     let model = model(alloc)?;
     let name = name(alloc, "oclIsKindOf", 5)?;
     let person = value(OclType::Class(0));
@@ -115,10 +115,10 @@ fn a_test_of_a_type_takes_one_type(rt: HostRuntime) -> Result<(), Fail> {
     let alloc = rt.alloc();
     let none = Given::Types(Items::new(alloc), true);
     let value = TypeArgument::NoType(Place { line: 1, col: 17 });
-    assert_eq!(rt; test_of(alloc, none)?, Told::Breaks(Family::T, 2, 5));
+    assert_eq!(rt; test_of(alloc, none)?, Outcome::Breaks(Family::T, 2, 5));
     assert_eq!(rt;
         test_of(alloc, types(alloc, value)?)?,
-        Told::Breaks(Family::T, 8, 17)
+        Outcome::Breaks(Family::T, 8, 17)
     );
     Ok(())
 }
@@ -128,19 +128,19 @@ fn no_value_is_exactly_of_the_type_of_null(rt: HostRuntime) -> Result<(), Fail> 
     let alloc = rt.alloc();
     let void = types(alloc, TypeArgument::OfType(OclType::Void))?;
     let person = types(alloc, TypeArgument::OfType(OclType::Class(0)))?;
-    assert_eq!(rt; test_of(alloc, void)?, Told::Breaks(Family::T, 3, 5));
-    assert_eq!(rt; test_of(alloc, person)?, Told::Fits);
+    assert_eq!(rt; test_of(alloc, void)?, Outcome::Breaks(Family::T, 3, 5));
+    assert_eq!(rt; test_of(alloc, person)?, Outcome::Fits);
     Ok(())
 }
 
 #[test]
 fn a_bar_among_arguments_is_their_wrong_number(rt: HostRuntime) -> Result<(), Fail> {
     let rows = [
-        ("nobody", Told::Breaks(Family::N, 2, 5)),
-        ("label", Told::Breaks(Family::T, 2, 5)),
-        ("rename", Told::Breaks(Family::T, 2, 5)),
-        ("isDefined", Told::Breaks(Family::T, 2, 5)),
-        ("oclIsNew", Told::Breaks(Family::T, 2, 5)),
+        ("nobody", Outcome::Breaks(Family::N, 2, 5)),
+        ("label", Outcome::Breaks(Family::T, 2, 5)),
+        ("rename", Outcome::Breaks(Family::T, 2, 5)),
+        ("isDefined", Outcome::Breaks(Family::T, 2, 5)),
+        ("oclIsNew", Outcome::Breaks(Family::T, 2, 5)),
     ];
     let model = model(rt.alloc())?;
     for (text, want) in rows {
@@ -156,13 +156,13 @@ fn a_bar_among_arguments_is_their_wrong_number(rt: HostRuntime) -> Result<(), Fa
 #[test]
 fn a_call_without_a_source_is_one_of_an_implicit_variable(rt: HostRuntime) -> Result<(), Fail> {
     let rows = [
-        ("nobody", 0, Told::Breaks(Family::N, 1, 3)),
-        ("name", 0, Told::Breaks(Family::N, 1, 3)),
-        ("x", 0, Told::Breaks(Family::N, 1, 3)),
-        ("abs", 0, Told::Breaks(Family::N, 1, 3)),
-        ("label", 1, Told::Breaks(Family::T, 2, 3)),
-        ("label", 0, Told::Fits),
-        ("isDefined", 0, Told::Fits),
+        ("nobody", 0, Outcome::Breaks(Family::N, 1, 3)),
+        ("name", 0, Outcome::Breaks(Family::N, 1, 3)),
+        ("x", 0, Outcome::Breaks(Family::N, 1, 3)),
+        ("abs", 0, Outcome::Breaks(Family::N, 1, 3)),
+        ("label", 1, Outcome::Breaks(Family::T, 2, 3)),
+        ("label", 0, Outcome::Fits),
+        ("isDefined", 0, Outcome::Fits),
     ];
     let model = model(rt.alloc())?;
     let env = environment(rt.alloc())?;

@@ -1,5 +1,5 @@
 use super::sample::{environment, model, name};
-use super::{Told, told};
+use super::{Outcome, told};
 use crate::{only_literal_rule, qualified};
 use std::test::Fail;
 use use_text::Family;
@@ -7,10 +7,10 @@ use use_text::Family;
 #[test]
 fn a_literal_alone_is_of_one_enumeration(rt: HostRuntime) -> Result<(), Fail> {
     let rows = [
-        ("nobody", Told::Breaks(Family::N, 3, 4)),
-        ("senior", Told::Breaks(Family::N, 3, 4)),
-        ("junior", Told::Fits),
-        ("chief", Told::Fits),
+        ("nobody", Outcome::Breaks(Family::N, 3, 4)),
+        ("senior", Outcome::Breaks(Family::N, 3, 4)),
+        ("junior", Outcome::Fits),
+        ("chief", Outcome::Fits),
     ];
     let model = model(rt.alloc())?;
     for (text, want) in rows {
@@ -23,13 +23,13 @@ fn a_literal_alone_is_of_one_enumeration(rt: HostRuntime) -> Result<(), Fail> {
 #[test]
 fn a_qualified_literal_is_one_of_its_enumeration(rt: HostRuntime) -> Result<(), Fail> {
     let rows = [
-        ("Nope", "junior", Told::Breaks(Family::N, 1, 3)),
-        ("x", "junior", Told::Breaks(Family::T, 8, 3)),
-        ("Integer", "junior", Told::Breaks(Family::N, 3, 12)),
-        ("Person", "junior", Told::Breaks(Family::N, 3, 12)),
-        ("Grade", "chief", Told::Breaks(Family::N, 3, 12)),
-        ("Grade", "senior", Told::Fits),
-        ("Rank", "senior", Told::Fits),
+        ("Nope", "junior", Outcome::Breaks(Family::N, 1, 3)),
+        ("x", "junior", Outcome::Breaks(Family::T, 8, 3)),
+        ("Integer", "junior", Outcome::Breaks(Family::N, 3, 12)),
+        ("Person", "junior", Outcome::Breaks(Family::N, 3, 12)),
+        ("Grade", "chief", Outcome::Breaks(Family::N, 3, 12)),
+        ("Grade", "senior", Outcome::Fits),
+        ("Rank", "senior", Outcome::Fits),
     ];
     let model = model(rt.alloc())?;
     let env = environment(rt.alloc())?;
@@ -45,10 +45,10 @@ fn a_qualified_literal_is_one_of_its_enumeration(rt: HostRuntime) -> Result<(), 
 #[test]
 fn a_qualified_literal_is_neither_called_nor_of_before(rt: HostRuntime) -> Result<(), Fail> {
     let rows = [
-        ("chief", true, true, Told::Breaks(Family::N, 3, 12)),
-        ("junior", true, true, Told::Breaks(Family::T, 2, 12)),
-        ("junior", true, false, Told::Breaks(Family::T, 9, 12)),
-        ("junior", false, false, Told::Fits),
+        ("chief", true, true, Outcome::Breaks(Family::N, 3, 12)),
+        ("junior", true, true, Outcome::Breaks(Family::T, 2, 12)),
+        ("junior", true, false, Outcome::Breaks(Family::T, 9, 12)),
+        ("junior", false, false, Outcome::Fits),
     ];
     let model = model(rt.alloc())?;
     let env = environment(rt.alloc())?;

@@ -1,5 +1,5 @@
 use super::sample::{environment, model, name};
-use super::{Told, told};
+use super::{Outcome, told};
 use crate::{bare, declared_type, property, type_wanted};
 use class_decls::TypeDecl;
 use class_model::OclType;
@@ -14,14 +14,14 @@ use use_text::Family;
 #[test]
 fn a_bare_name_stands_for_a_value(rt: HostRuntime) -> Result<(), Fail> {
     let rows = [
-        ("nobody", Told::Breaks(Family::N, 1, 3)),
-        ("label", Told::Breaks(Family::N, 1, 3)),
-        ("Person", Told::Breaks(Family::T, 8, 3)),
-        ("Grade", Told::Breaks(Family::T, 8, 3)),
-        ("Integer", Told::Breaks(Family::T, 8, 3)),
-        ("x", Told::Fits),
-        ("name", Told::Fits),
-        ("employer", Told::Fits),
+        ("nobody", Outcome::Breaks(Family::N, 1, 3)),
+        ("label", Outcome::Breaks(Family::N, 1, 3)),
+        ("Person", Outcome::Breaks(Family::T, 8, 3)),
+        ("Grade", Outcome::Breaks(Family::T, 8, 3)),
+        ("Integer", Outcome::Breaks(Family::T, 8, 3)),
+        ("x", Outcome::Fits),
+        ("name", Outcome::Fits),
+        ("employer", Outcome::Fits),
     ];
     let model = model(rt.alloc())?;
     let env = environment(rt.alloc())?;
@@ -36,11 +36,11 @@ fn a_bare_name_stands_for_a_value(rt: HostRuntime) -> Result<(), Fail> {
 #[test]
 fn a_bare_name_of_the_state_before_is_a_property(rt: HostRuntime) -> Result<(), Fail> {
     let rows = [
-        ("nobody", true, Told::Breaks(Family::N, 1, 3)),
-        ("Person", true, Told::Breaks(Family::T, 8, 3)),
-        ("x", true, Told::Breaks(Family::T, 9, 3)),
-        ("name", false, Told::Breaks(Family::T, 9, 3)),
-        ("name", true, Told::Fits),
+        ("nobody", true, Outcome::Breaks(Family::N, 1, 3)),
+        ("Person", true, Outcome::Breaks(Family::T, 8, 3)),
+        ("x", true, Outcome::Breaks(Family::T, 9, 3)),
+        ("name", false, Outcome::Breaks(Family::T, 9, 3)),
+        ("name", true, Outcome::Fits),
     ];
     let model = model(rt.alloc())?;
     let env = environment(rt.alloc())?;
@@ -91,13 +91,13 @@ fn the_innermost_variable_goes_first(rt: HostRuntime) -> Result<(), Fail> {
 #[test]
 fn a_type_is_wanted(rt: HostRuntime) -> Result<(), Fail> {
     let rows = [
-        ("Nope", Told::Breaks(Family::N, 1, 9)),
-        ("label", Told::Breaks(Family::N, 1, 9)),
-        ("x", Told::Breaks(Family::T, 8, 9)),
-        ("name", Told::Breaks(Family::T, 8, 9)),
-        ("Person", Told::Fits),
-        ("Grade", Told::Fits),
-        ("OclVoid", Told::Fits),
+        ("Nope", Outcome::Breaks(Family::N, 1, 9)),
+        ("label", Outcome::Breaks(Family::N, 1, 9)),
+        ("x", Outcome::Breaks(Family::T, 8, 9)),
+        ("name", Outcome::Breaks(Family::T, 8, 9)),
+        ("Person", Outcome::Fits),
+        ("Grade", Outcome::Fits),
+        ("OclVoid", Outcome::Fits),
     ];
     let model = model(rt.alloc())?;
     let env = environment(rt.alloc())?;
@@ -140,11 +140,11 @@ fn first_value(of_type: OclType) -> Typed {
 #[test]
 fn a_property_is_one_of_its_source(rt: HostRuntime) -> Result<(), Fail> {
     let rows = [
-        ("nobody", Told::Breaks(Family::N, 2, 5)),
-        ("size", Told::Breaks(Family::N, 2, 5)),
-        ("label", Told::Breaks(Family::N, 2, 5)),
-        ("name", Told::Fits),
-        ("employer", Told::Fits),
+        ("nobody", Outcome::Breaks(Family::N, 2, 5)),
+        ("size", Outcome::Breaks(Family::N, 2, 5)),
+        ("label", Outcome::Breaks(Family::N, 2, 5)),
+        ("name", Outcome::Fits),
+        ("employer", Outcome::Fits),
     ];
     let model = model(rt.alloc())?;
     for (text, want) in rows {
@@ -169,7 +169,7 @@ fn null_has_no_property(rt: HostRuntime) -> Result<(), Fail> {
             false,
             first_value(of_type),
         );
-        assert_eq!(rt; told(&found), Told::Breaks(Family::N, 2, 8));
+        assert_eq!(rt; told(&found), Outcome::Breaks(Family::N, 2, 8));
     }
     Ok(())
 }
