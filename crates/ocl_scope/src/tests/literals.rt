@@ -1,8 +1,15 @@
 use super::sample::{environment, model, name};
 use super::{Outcome, told};
-use crate::{only_literal_rule, qualified};
+use crate::{Environment, only_literal_rule, qualified};
+use class_model::ClassModel;
+use std::alloc::Global;
 use std::test::Fail;
 use use_text::Family;
+
+fn alone_told(alloc: Global, model: &ClassModel, text: &str) -> Result<Outcome, Fail> {
+    let name = name(alloc, text, 4)?;
+    Ok(told(&only_literal_rule(model, &name)))
+}
 
 #[test]
 fn a_literal_alone_is_of_one_enumeration(rt: HostRuntime) -> Result<(), Fail> {
@@ -14,29 +21,40 @@ fn a_literal_alone_is_of_one_enumeration(rt: HostRuntime) -> Result<(), Fail> {
     ];
     let model = model(rt.alloc())?;
     for (text, want) in rows {
-        let name = name(rt.alloc(), text, 4)?;
-        assert_eq!(rt; told(&only_literal_rule(&model, &name)), want, "{text}");
+        let found = alone_told(rt.alloc(), &model, text)?;
+        assert_eq!(rt; found, want, "{text}");
     }
     Ok(())
+}
+
+// The flags say that `@pre` and parentheses follow.
+fn qualified_told(
+    alloc: Global,
+    env: &Environment,
+    text: &str,
+    literal: &str,
+    is_before: bool,
+    is_called: bool,
+) -> Result<Outcome, Fail> {
+    let model = model(alloc)?;
+    let owner = name(alloc, text, 3)?;
+    let literal = name(alloc, literal, 12)?;
+    Ok(told(&qualified(&model, env, &owner, &literal, is_before, is_called)))
 }
 
 #[test]
 fn a_qualified_literal_is_one_of_its_enumeration(rt: HostRuntime) -> Result<(), Fail> {
     let rows = [
-        ("Nope", "junior", Outcome::Breaks(Family::N, 1, 3)),
-        ("x", "junior", Outcome::Breaks(Family::T, 8, 3)),
-        ("Integer", "junior", Outcome::Breaks(Family::N, 3, 12)),
-        ("Person", "junior", Outcome::Breaks(Family::N, 3, 12)),
-        ("Grade", "chief", Outcome::Breaks(Family::N, 3, 12)),
-        ("Grade", "senior", Outcome::Fits),
-        ("Rank", "senior", Outcome::Fits),
+        ("Nope", Outcome::Breaks(Family::N, 1, 3)),
+        ("x", Outcome::Breaks(Family::T, 8, 3)),
+        ("Integer", Outcome::Breaks(Family::N, 3, 12)),
+        ("Person", Outcome::Breaks(Family::N, 3, 12)),
+        ("Rank", Outcome::Breaks(Family::N, 3, 12)),
+        ("Grade", Outcome::Fits),
     ];
-    let model = model(rt.alloc())?;
     let env = environment(rt.alloc())?;
-    for (text, literal, want) in rows {
-        let owner = name(rt.alloc(), text, 3)?;
-        let literal = name(rt.alloc(), literal, 12)?;
-        let found = told(&qualified(&model, &env, &owner, &literal, false, false));
+    for (text, want) in rows {
+        let found = qualified_told(rt.alloc(), &env, text, "junior", false, false)?;
         assert_eq!(rt; found, want, "{text}");
     }
     Ok(())
@@ -50,12 +68,9 @@ fn a_qualified_literal_is_neither_called_nor_of_before(rt: HostRuntime) -> Resul
         ("junior", true, false, Outcome::Breaks(Family::T, 9, 12)),
         ("junior", false, false, Outcome::Fits),
     ];
-    let model = model(rt.alloc())?;
     let env = environment(rt.alloc())?;
-    let grade = name(rt.alloc(), "Grade", 3)?;
     for (text, is_before, is_called, want) in rows {
-        let literal = name(rt.alloc(), text, 12)?;
-        let found = told(&qualified(&model, &env, &grade, &literal, is_before, is_called));
+        let found = qualified_told(rt.alloc(), &env, "Grade", text, is_before, is_called)?;
         assert_eq!(rt; found, want, "{text}");
     }
     Ok(())

