@@ -1,5 +1,5 @@
 -- A class that a model does not have has nothing; and the operations that a class has are the model's.
-use Rattle.std.proofs.Common.{◌≡◌, ℕ, suc, ◌+◌, ◌<◌, ◌≤◌, Bool, true, false, ◌||◌, ◌&&◌, cond, if◌then◌else◌, nat_cmp, nat_eq, List, [], ◌∷◌, length, map, Option, Some, None, IfSome, refl, sym, ap, ◌∙◌, subst, arith, true≢false, ⊎_elim, All, unwrap_or}
+use Rattle.std.proofs.Common.{◌≡◌, ℕ, suc, ◌+◌, ◌<◌, ◌≤◌, Bool, true, false, ◌||◌, ◌&&◌, cond, if◌then◌else◌, nat_cmp, nat_eq, List, [], ◌∷◌, length, Option, Some, None, IfSome, refl, sym, ap, ◌∙◌, subst, arith, true≢false, ⊎_elim, All, unwrap_or}
 use Rattle.std.specs.List.{AllByRecursion, cons_option, enumerate_from, filter_map, flat_map, list_any, position_from}
 use Rattle.std.specs.Option.{option_and_then, option_map, option_or}
 use Rattle.std.proofs.lemmas.Bool.Decides.{eqb_tells}
@@ -9,12 +9,11 @@ use Rattle.use_orders.specs.Canon.{set_of}
 use Rattle.class_decls.specs.Texts.{first_numbered, same_text}
 use Rattle.class_rules.specs.Ancestors as above
 use Rattle.class_rules.specs.Numbering.{is_among}
-use Rattle.class_model.specs.declared.numbers.End.{End}
 use Rattle.class_model.specs.declared.numbers.End.TheVariants.{First, Second}
 use Rattle.class_model.specs.declared.object_model.Association.{Association}
 use Rattle.class_model.specs.declared.object_model.Attribute.{Attribute}
 use Rattle.class_model.specs.declared.object_model.ObjectModel.{ObjectModel}
-use Rattle.class_model.specs.Features.{attr, attribute_among, chosen_by, declarations, derived, end_named, has_operation, operation, role}
+use Rattle.class_model.specs.Features.{attribute_among, chosen_by, declarations, derived, end_named, has_operation, operation, role}
 use Rattle.class_model.specs.Inheritance.{is_a, parents_of}
 use Rattle.class_model.specs.InRange.{IsInRange}
 use Rattle.class_model.proofs.Overriding.{found_there}

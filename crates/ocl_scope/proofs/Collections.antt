@@ -1,5 +1,5 @@
 -- Types of collections, and what is collected of them, by their elements.
-use Rattle.std.proofs.Common.{◌≡◌, ℕ, suc, ◌+◌, ◌-◌, ◌<◌, ◌≤◌, List, length, drop, get_or, None, refl, sym, ap, ◌∙◌, subst, arith}
+use Rattle.std.proofs.Common.{◌≡◌, ℕ, suc, ◌+◌, ◌<◌, None, refl, sym, ap, ◌∙◌, subst, arith}
 use Rattle.ocl_values.specs.declared.value.Kind.{Kind}
 use Rattle.class_model.specs.declared.types.OclType.{OclType}
 use Rattle.class_model.specs.declared.types.OclType.TheVariants as T

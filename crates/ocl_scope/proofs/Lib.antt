@@ -2,3 +2,8 @@ pub mod Scopes
 pub mod Absent
 pub mod Collections
 pub mod Telling
+pub mod Layers
+pub mod Found
+pub mod Told
+pub mod Nested
+pub mod Kept

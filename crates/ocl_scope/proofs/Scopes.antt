@@ -5,8 +5,6 @@ use Rattle.std.proofs.Math.Seq.{take-append_seam, take-length}
 use Rattle.std.proofs.lemmas.List.{take_more}
 use Rattle.class_model.specs.declared.types.OclType.{OclType}
 use Rattle.ocl_scope.specs.declared.environment.Environment.{Environment}
-use Rattle.ocl_scope.specs.declared.environment.Scope.{Scope}
-use Rattle.ocl_scope.specs.declared.environment.Variable.{Variable}
 use Rattle.ocl_scope.specs.Environments.{back_to, last_that, scope_of, with_values, with_variable}
 
 or_none : {A : Type 0} (o : Option A) → o ≡ option_or o None

@@ -1,5 +1,5 @@
 -- The environment of an expression: the variables that names may stand for, outermost first.
-use Rattle.std.specs.Prelude.{ℕ, ◌+◌, ◌&&◌, Bool, false, if◌then◌else◌, List, [], ◌∷◌, ◌++◌, length, take, Option, Some, None}
+use Rattle.std.specs.Prelude.{ℕ, ◌+◌, Bool, false, if◌then◌else◌, List, [], ◌∷◌, ◌++◌, length, take, Option, Some, None}
 use Rattle.std.specs.Option.{option_map_or, option_or}
 use Rattle.use_text.specs.Pieces.{same_text}
 use Rattle.class_model.specs.declared.types.OclType.{OclType}

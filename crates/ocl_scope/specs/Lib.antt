@@ -3,3 +3,4 @@ pub mod Names
 pub mod Literals
 pub mod Calls
 pub mod Collected
+pub mod Ranges
