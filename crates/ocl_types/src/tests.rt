@@ -281,28 +281,62 @@ fn chain(alloc: Global, operators: u32) -> Result<String, Fail> {
     Ok(text)
 }
 
-fn type_of_chain_by(alloc: Global, g: &Grammar, operators: u32) -> Result<String, Fail>
+// Sets in sets, so many of them, and a text in the innermost.
+fn nested(alloc: Global, inner: &str, sets: u32) -> Result<String, Fail> {
+    let mut text = String::new(alloc);
+    'opened: for _ in 0..sets {
+        text.push_str("Set{")?;
+    }
+    text.push_str(inner)?;
+    'closed: for _ in 0..sets {
+        text.push_str("}")?;
+    }
+    Ok(text)
+}
+
+// A set whose type nests 180 collections more than are written in its body.
+fn nested_in_three(alloc: Global, sets: u32) -> Result<String, Fail> {
+    let x = nested(alloc, "1", 90)?;
+    let y = nested(alloc, "x", 90)?;
+    let body = nested(alloc, "y", sets)?;
+    Ok(format!(in alloc;
+        "? let x = {}, y = {} in {}",
+        x.as_str(),
+        y.as_str(),
+        body.as_str()
+    )?)
+}
+
+fn type_of_text_by(alloc: Global, g: &Grammar, text: &str) -> Result<String, Fail>
     requires { g.now ≡ language }
 {
-    let text = chain(alloc, operators)?;
     match work(alloc, g)? {
         None => Ok(String::from_str(alloc, "no model")?),
-        Some(model) => shown_of(alloc, g, &model, false, text.as_str()),
+        Some(model) => shown_of(alloc, g, &model, false, text),
     }
 }
 
-fn type_of_chain(alloc: Global, operators: u32) -> Result<String, Fail> {
+fn type_of_text(alloc: Global, text: &str) -> Result<String, Fail> {
     match language(alloc)? {
         None => Ok(String::from_str(alloc, "no grammar")?),
-        Some(g) => type_of_chain_by(alloc, &g, operators),
+        Some(g) => type_of_text_by(alloc, &g, text),
     }
 }
 
 #[test]
 fn nodes_that_are_too_deep(rt: HostRuntime) -> Result<(), Fail> {
-    let deepest = type_of_chain(rt.alloc(), 255)?;
+    let deepest = type_of_text(rt.alloc(), chain(rt.alloc(), 255)?.as_str())?;
     assert_eq!(rt; deepest.as_str(), "Integer");
-    let deeper = type_of_chain(rt.alloc(), 256)?;
+    let deeper = type_of_text(rt.alloc(), chain(rt.alloc(), 256)?.as_str())?;
     assert_eq!(rt; deeper.as_str(), "T16 at 1:3");
+    Ok(())
+}
+
+#[test]
+fn types_that_nest_too_many_collections(rt: HostRuntime) -> Result<(), Fail> {
+    let deepest = type_of_text(rt.alloc(), nested_in_three(rt.alloc(), 76)?.as_str())?;
+    assert!(rt; deepest.as_str().starts_with("Set(Set("));
+    let deeper = type_of_text(rt.alloc(), nested_in_three(rt.alloc(), 77)?.as_str())?;
+    assert_eq!(rt; deeper.as_str(), "T16 at 1:923");
     Ok(())
 }
