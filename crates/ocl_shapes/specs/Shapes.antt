@@ -145,3 +145,17 @@ may_have_two I.CollectNested = false
 may_have_two I.Collect = false
 may_have_two I.SortedBy = false
 may_have_two I.Iterate = false
+
+-- an iterator that accumulates a value of its own
+abbrev pub accumulates : IterOp → Bool
+accumulates I.Iterate = true
+accumulates I.Select = false
+accumulates I.Reject = false
+accumulates I.Any = false
+accumulates I.One = false
+accumulates I.ForAll = false
+accumulates I.Exists = false
+accumulates I.IsUnique = false
+accumulates I.CollectNested = false
+accumulates I.Collect = false
+accumulates I.SortedBy = false

@@ -15,7 +15,7 @@ pub use extents::{class_asked, extent};
 pub use members::{called, property};
 pub use named::{named_by, type_found};
 pub use shapes::{
-    accumulator_name, alone, are_plain, asked_name, body_of, expression_of, has_none,
+    accumulates, accumulator_name, alone, are_plain, asked_name, body_of, expression_of, has_none,
     iterator_named, may_have_two, or_none, plain_name, start_of, variable_name, written_type,
 };
 

@@ -1,6 +1,6 @@
 ghost use Rattle.std.specs.Prelude.{◌≡◌};
 ghost use Rattle.std.specs.Option.{option_copied};
-ghost use Rattle.ocl_shapes.specs.Shapes.{accumulator_name, alone, are_plain, asked_name, body_of, expression_of, has_none, is_plain, iterator_named};
+ghost use Rattle.ocl_shapes.specs.Shapes.{accumulates, accumulator_name, alone, are_plain, asked_name, body_of, expression_of, has_none, is_plain, iterator_named};
 ghost use Rattle.ocl_shapes.specs.Shapes.{may_have_two, or_none, plain_name, rare_iterator, start_of, variable_name, written_type};
 
 use class_decls::{Name, TypeDecl};
@@ -179,4 +179,11 @@ pub fn may_have_two(op: IterOp) -> bool
     ensures { result ≡ may_have_two op }
 {
     matches!(op, IterOp::ForAll | IterOp::Exists)
+}
+
+/// Whether an iterator accumulates a value of its own.
+pub fn accumulates(op: IterOp) -> bool
+    ensures { result ≡ accumulates op }
+{
+    matches!(op, IterOp::Iterate)
 }

@@ -9,7 +9,6 @@ use Rattle.class_model.specs.declared.object_model.ObjectModel.{ObjectModel}
 use Rattle.class_model.specs.declared.types.OclType.{OclType}
 use Rattle.ocl_core.specs.declared.expression.Expr.TheVariants as E
 use Rattle.ocl_core.specs.declared.operators.IterOp.{IterOp}
-use Rattle.ocl_core.specs.declared.operators.IterOp.TheVariants as I
 use Rattle.ocl_syntax.specs.declared.tree.Argument.{Argument}
 use Rattle.ocl_syntax.specs.declared.tree.Written.{Written}
 use Rattle.ocl_syntax.specs.declared.tree.Argument.TheOpen.{Written-F, WrittenPart-F}
@@ -39,7 +38,7 @@ use Rattle.ocl_shapes.specs.Combining.{◌>>=◌, ◌>>◌, each, if_there, pure
 use Rattle.ocl_shapes.specs.Extents.{class_asked, extent}
 use Rattle.ocl_shapes.specs.Members.{called, property}
 use Rattle.ocl_shapes.specs.Named.{named_by, type_found}
-use Rattle.ocl_shapes.specs.Shapes.{Layer, PartLayer, accumulator_name, alone, are_plain, asked_name, body_of, expression_of, has_none, iterator_named}
+use Rattle.ocl_shapes.specs.Shapes.{Layer, PartLayer, accumulates, accumulator_name, alone, are_plain, asked_name, body_of, expression_of, has_none, iterator_named}
 use Rattle.ocl_shapes.specs.Shapes.{may_have_two, or_none, start_of, variable_name, written_type}
 use Rattle.ocl_shapes.specs.Sources.{asks_elements, elements_of}
 use Rattle.ocl_shapes.specs.declared.elements.Elements.{Elements}
@@ -257,8 +256,7 @@ module _ (s : Scene) (type_of : Environment → Written → Typing Typed) where
   iteration env op name es _ = malformed name
 
   abbrev pub iterator : Environment → IterOp → Name → Elements → List Argument → Typing Typed
-  iterator env I.Iterate name es args = accumulation env name es args
-  iterator env op name es args = iteration env op name es args
+  iterator env op name es args = if accumulates op then accumulation env name es args else iteration env op name es args
 
   -- an iterator, or an operation of a collection
   abbrev pub over : Environment → Name → Elements → List Argument → Option IterOp → Typing Typed

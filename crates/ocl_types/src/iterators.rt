@@ -14,9 +14,9 @@ use ocl_core::IterOp;
 use ocl_rules::{TypeFault, Typed, collection_operation};
 use ocl_scope::{Environment, declared_type};
 use ocl_shapes::{
-    Elements, accumulated, accumulator_name, alone, are_plain, body_of, elements_of, iterated,
-    iterator_named, malformed, may_have_two, operation_called, or_none, start_of, variable_name,
-    written_type,
+    Elements, accumulated, accumulates, accumulator_name, alone, are_plain, body_of, elements_of,
+    iterated, iterator_named, malformed, may_have_two, operation_called, or_none, start_of,
+    variable_name, written_type,
 };
 use ocl_syntax::{Argument, Written};
 use use_lists::Items;
@@ -110,13 +110,14 @@ where
             env.old op name.now elements (variable_name first.now) (written_type first.now) (body_of second.now)) result }
         ensures environment { env.new ≡ env.old }
     {
-        match (variable_name(first), body_of(second)) {
-            (Some(variable), Some(body)) => {
-                let of_type = written_type(first);
-                self.one_bound(env, op, name, elements, variable, of_type, body)
-            }
-            _ => Err(malformed(name)),
-        }
+        let Some(variable) = variable_name(first) else {
+            return Err(malformed(name));
+        };
+        let Some(body) = body_of(second) else {
+            return Err(malformed(name));
+        };
+        let of_type = written_type(first);
+        self.one_bound(env, op, name, elements, variable, of_type, body)
     }
 
     /// The types of two variables of an iterator, and its body.
@@ -172,13 +173,17 @@ where
             (variable_name first.now) (written_type first.now) (variable_name second.now) (written_type second.now) (body_of third.now)) result }
         ensures environment { env.new ≡ env.old }
     {
-        match (variable_name(first), variable_name(second), body_of(third)) {
-            (Some(one), Some(two), Some(body)) => {
-                let types = (written_type(first), written_type(second));
-                self.two_bound(env, op, name, elements, (one, two), types, body)
-            }
-            _ => Err(malformed(name)),
-        }
+        let Some(one) = variable_name(first) else {
+            return Err(malformed(name));
+        };
+        let Some(two) = variable_name(second) else {
+            return Err(malformed(name));
+        };
+        let Some(body) = body_of(third) else {
+            return Err(malformed(name));
+        };
+        let types = (written_type(first), written_type(second));
+        self.two_bound(env, op, name, elements, (one, two), types, body)
     }
 
     /// The body of `iterate`, where its variable and what is accumulated are bound.
@@ -289,13 +294,14 @@ where
             (start_of accumulator.now) body.now) result }
         ensures environment { env.new ≡ env.old }
     {
-        match (written_type(accumulator), start_of(accumulator)) {
-            (Some(of_type), Some(start)) => {
-                let types = (declared, of_type);
-                self.accumulator_bound(env, name, elements, variables, types, start, body)
-            }
-            _ => Err(malformed(name)),
-        }
+        let Some(of_type) = written_type(accumulator) else {
+            return Err(malformed(name));
+        };
+        let Some(start) = start_of(accumulator) else {
+            return Err(malformed(name));
+        };
+        let types = (declared, of_type);
+        self.accumulator_bound(env, name, elements, variables, types, start, body)
     }
 
     fn accumulate(
@@ -314,17 +320,17 @@ where
             (start_of second.now) (body_of third.now)) result }
         ensures environment { env.new ≡ env.old }
     {
-        match (
-            variable_name(first),
-            accumulator_name(second),
-            body_of(third),
-        ) {
-            (Some(one), Some(two), Some(body)) => {
-                let declared = written_type(first);
-                self.accumulate_by(env, name, elements, (one, two), declared, second, body)
-            }
-            _ => Err(malformed(name)),
-        }
+        let Some(one) = variable_name(first) else {
+            return Err(malformed(name));
+        };
+        let Some(two) = accumulator_name(second) else {
+            return Err(malformed(name));
+        };
+        let Some(body) = body_of(third) else {
+            return Err(malformed(name));
+        };
+        let declared = written_type(first);
+        self.accumulate_by(env, name, elements, (one, two), declared, second, body)
     }
 
     #[tactic(auto, unfolding(crate::specs::Nodes::accumulation))]
@@ -387,9 +393,10 @@ where
         ensures value { Tells (iterator (scene self.now.setting) (part_in self.now.setting) env.old op name.now elements arguments.now) result }
         ensures environment { env.new ≡ env.old }
     {
-        match op {
-            IterOp::Iterate => self.accumulation(env, name, elements, arguments),
-            _ => self.iteration(env, op, name, elements, arguments),
+        if accumulates(op) {
+            self.accumulation(env, name, elements, arguments)
+        } else {
+            self.iteration(env, op, name, elements, arguments)
         }
     }
 
