@@ -1,0 +1,4 @@
+pub mod Scopes
+pub mod Absent
+pub mod Collections
+pub mod Telling
