@@ -1,5 +1,5 @@
 -- The type of each kind of node, by what types its parts: the parts from left to right, then the node's own rule.
-use Rattle.std.specs.Prelude.{ℕ, Bool, if◌then◌else◌, List, [], ◌∷◌, Option, Some, None, is_some, unwrap_or}
+use Rattle.std.specs.Prelude.{ℕ, Bool, true, false, if◌then◌else◌, List, [], ◌∷◌, Option, Some, None, is_some, unwrap_or}
 use Rattle.use_text.specs.declared.place.Place.{Place}
 use Rattle.ocl_values.specs.declared.value.Kind.{Kind}
 use Rattle.ocl_values.specs.declared.value.Value.{Value}
