@@ -18,6 +18,3 @@ pub use shapes::{
     accumulates, accumulator_name, alone, are_plain, asked_name, body_of, expression_of, has_none,
     iterator_named, may_have_two, or_none, plain_name, start_of, variable_name, written_type,
 };
-
-#[cfg(test)]
-mod tests;

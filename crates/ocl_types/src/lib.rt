@@ -12,6 +12,3 @@ mod walk;
 use node::Node;
 use setting::Setting;
 pub use walk::type_expr;
-
-#[cfg(test)]
-mod tests;
