@@ -56,8 +56,8 @@ module _ (now now' : Cell → Look) where
       then_with r f' ≡ then_with r f
   same_then f f' fs r g =
       let by_case : AgreeOn (then_with r f).1.reads now now' → then_with r f' ≡ then_with r f
-          = elim r.0 as (λ o. AgreeOn (then_with (o, r.1) f).1.reads now now' → then_with (o, r.1) f' ≡ then_with (o, r.1) f)
-          [ Some a ↦ λ k. (fs a).same r.1 k | None ↦ λ k. refl ] in
+      = elim r.0 as (λ o. AgreeOn (then_with (o, r.1) f).1.reads now now' → then_with (o, r.1) f' ≡ then_with (o, r.1) f)
+      [ Some a ↦ λ k. (fs a).same r.1 k | None ↦ λ k. refl ] in
       by_case g
 
   same_bind : {A B : Type 0} (x x' : Evaluation A) (f f' : A → Evaluation B) → Local x x' → ((a : A) → Local (f a) (f' a)) → Local (x >>= f) (x' >>= f')

@@ -35,8 +35,8 @@ module _ (k : ℕ) where
       GrowsAt (then_with r f) (then_with r' f')
   more_then f f' fs r r' h =
       let by_case : GrowsAt r r' → GrowsAt (then_with r f) (then_with r' f')
-          = elim r.0 as (λ o. GrowsAt (o, r.1) r' → GrowsAt (then_with (o, r.1) f) (then_with r' f'))
-          [ Some a ↦ λ e. subst (λ q. GrowsAt (f a r.1) (then_with q f')) (sym e) (fs a r.1) | None ↦ λ e. tt ] in
+      = elim r.0 as (λ o. GrowsAt (o, r.1) r' → GrowsAt (then_with (o, r.1) f) (then_with r' f'))
+      [ Some a ↦ λ e. subst (λ q. GrowsAt (f a r.1) (then_with q f')) (sym e) (fs a r.1) | None ↦ λ e. tt ] in
       by_case h
 
   more_bind : {A B : Type 0} (x x' : Evaluation A) (f f' : A → Evaluation B) → Grows x x' → ((a : A) → Grows (f a) (f' a)) → Grows (x >>= f) (x' >>= f')

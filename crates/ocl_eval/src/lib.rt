@@ -25,8 +25,8 @@ mod walks;
 
 pub use env::Env;
 pub use evaluation::evaluate;
-use meter::Meter;
 pub use laws::{outcomes_depend_on_what_is_read, what_is_done_stays_done};
+use meter::Meter;
 pub use outcome::Outcome;
 use setting::Setting;
 use states::States;
