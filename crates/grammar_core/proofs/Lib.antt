@@ -17,3 +17,4 @@ pub mod Emptiness
 pub mod Unfitness
 pub mod Yield
 pub mod Certified
+pub mod Reaching

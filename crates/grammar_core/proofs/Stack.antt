@@ -18,9 +18,10 @@ use Rattle.grammar_core.specs.Empty.{MayBeEmpty}
 use Rattle.grammar_core.specs.Unfit.{IsFit}
 use Rattle.grammar_core.specs.Derives.{Outcome, begins, branch_of, max_level, level_in}
 use Rattle.grammar_core.specs.Answers.{Answer, Reading, then_at, in_turn, again, close, of_production, whole, outcome_of}
-use Rattle.grammar_core.specs.declared.machine.Parts.{Parts}
+use Rattle.grammar_core.specs.declared.repeated.Parts.{Parts}
+use Rattle.grammar_core.specs.Repetitions.{is_star, parts_in, repeated_parts, two_parts}
 use Rattle.grammar_core.specs.Arena.{closed}
-use Rattle.grammar_core.specs.Tasks.{task, tasks_from, tasks, left, reads, is_star, IsStar, two_parts, parts_in, repeated_parts, tasks_by_parts, rule_tasks, IsTask, AreTasks, Counted, steps_of, Meets}
+use Rattle.grammar_core.specs.Tasks.{task, tasks_from, tasks, left, reads, IsStar, tasks_by_parts, rule_tasks, IsTask, AreTasks, Counted, steps_of, Meets}
 use Rattle.grammar_core.proofs.Fits.{IsBelow, AllBelow, OtherBelow, branch_below, fits, rule_there}
 use Rattle.grammar_core.proofs.Same.{then_same, unroll}
 use Rattle.grammar_core.proofs.Complete.{at_level, at_no_level, stop_some}

@@ -9,6 +9,8 @@ pub mod Derives
 pub mod Choices
 pub mod Arena
 pub mod Answers
+pub mod Repetitions
+pub mod Chains
 pub mod Tasks
 pub mod Parses
 pub mod Certificate

@@ -6,7 +6,8 @@ use Rattle.grammar_core.specs.declared.fault.ParseFault.TheVariants.{Memory, Stu
 use Rattle.grammar_core.specs.declared.machine.Done.{Done}
 use Rattle.grammar_core.specs.declared.table.Prod.{Prod}
 use Rattle.grammar_core.specs.declared.table.Prod.TheVariants.{Tok, Call, Seq, Case, Star}
-use Rattle.grammar_core.specs.declared.machine.Parts.{Parts}
+use Rattle.grammar_core.specs.declared.repeated.Parts.{Parts}
+use Rattle.grammar_core.specs.Repetitions.{is_star, repeated_parts}
 use Rattle.grammar_core.specs.declared.machine.Position.{Position}
 use Rattle.grammar_core.specs.declared.machine.Task.{Task}
 use Rattle.grammar_core.specs.declared.machine.Task.TheVariants.{Read, Close, Repeat}
@@ -41,14 +42,6 @@ tasks g ks ts at done n = tasks_from g ks ts (λ to more m. Answer.ends to more 
 abbrev pub reads : ℕ → List ℕ → List Task
 reads level ps = map (λ p. Read p level) ps
 
-abbrev pub is_star : Option Prod → Bool
-is_star None = false
-is_star (Some (Tok k)) = false
-is_star (Some (Call r)) = false
-is_star (Some (Seq ps)) = false
-is_star (Some (Case bs other)) = false
-is_star (Some (Star firsts q)) = true
-
 -- the production of this number is a repetition
 abbrev pub IsStar : Table → ℕ → Type 0
 IsStar g p = is_star (slice_get g.prods p) ≡ true
@@ -61,25 +54,6 @@ IsTask g (Repeat p level r start) = IsStar g p
 abbrev pub AreTasks : Table → List Task → Type 0
 AreTasks g [] = Unit {0}
 AreTasks g (t ∷ ts) = IsTask g t × AreTasks g ts
-
--- one part and a repetition
-abbrev pub two_parts : Table → List ℕ → Option Parts
-two_parts g [] = None
-two_parts g (p ∷ []) = None
-two_parts g (p ∷ (q ∷ [])) = if is_star (slice_get g.prods q) then Some (record { first = p; repeated = q }) else None
-two_parts g (p ∷ (q ∷ (x ∷ more))) = None
-
-abbrev pub parts_in : Table → Option Prod → Option Parts
-parts_in g None = None
-parts_in g (Some (Tok k)) = None
-parts_in g (Some (Call r)) = None
-parts_in g (Some (Seq ps)) = two_parts g ps
-parts_in g (Some (Case bs other)) = None
-parts_in g (Some (Star firsts q)) = None
-
--- the parts of a production that is one part and a repetition
-abbrev pub repeated_parts : Table → ℕ → Option Parts
-repeated_parts g p = parts_in g (slice_get g.prods p)
 
 abbrev pub tasks_by_parts : Option Parts → ℕ → ℕ → ℕ → ℕ → List Task
 tasks_by_parts None r to level start = Close r start ∷ (Read to level ∷ [])
@@ -104,6 +78,17 @@ Meets (Err (Deep at)) trees a = outcome_of a ≡ Some (Outcome.deep at)
 pub record Counted (g : Table) (ks : List ℕ) (ts : List Task) (at : ℕ) (trees : List ParseTree) (a : Answer) : Type 0 where
   pub more : ℕ
   pub same : tasks g ks ts at trees (suc more) ≡ a
+
+-- from some tasks others are left after some steps, with what was read so far as it was
+pub record Reached (g : Table) (ks : List ℕ) (old new : List Task) (at : ℕ) (trees : List ParseTree) : Type 0 where
+  pub more : ℕ
+  pub same : tasks g ks new at trees more ≡ tasks g ks old at trees 0
+
+-- a reading was begun over some tasks, and goes on with another production at the same place over others
+pub record Begun (g : Table) (ks : List ℕ) (here next : Position) (old new : List Task) (trees : List ParseTree) : Type 0 where
+  pub reached : Reached g ks (old ++ (Read here.prod here.level ∷ [])) (new ++ (Read next.prod next.level ∷ [])) here.at trees
+  pub all : AreTasks g (new ++ (Read next.prod next.level ∷ []))
+  pub at : next.at ≡ here.at
 
 -- one step was done, which counts one or more, of a task that answers this
 abbrev pub Stepped : Table → List ℕ → Result Done ParseFault → Work → Work → Answer → Type 0

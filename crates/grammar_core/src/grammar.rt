@@ -1,12 +1,16 @@
-ghost use Rattle.std.specs.Prelude.{◌≡◌, ◌≤◌, ◌<◌, length, slice_get, Some, IfOk, IfErr, IsTrue};
+ghost use Rattle.std.specs.Prelude.{◌≡◌, ◌≤◌, ◌<◌, length, slice_get, Some, IfOk, IfErr, IfSome, IsTrue};
 ghost use Rattle.grammar_core.specs.declared.table.Prod.TheVariants.{Case, Star};
 ghost use Rattle.grammar_core.specs.Derives.{begins, branch_of, kinds};
+ghost use Rattle.grammar_core.specs.Chains.{Leads};
+ghost use Rattle.grammar_core.specs.Repetitions.{repeated_parts};
 ghost use Rattle.grammar_core.specs.Tables.{rule_at, table_of};
 ghost use Rattle.grammar_core.specs.Unfit.{all_inside, IsGrammarFault, IsFit};
 
+use crate::chains::{Chain, all_chains};
 use crate::choices::{Cells, all_cells, told_choice};
 use crate::fitness::first_unfit;
 use crate::lookup::{begins, branch_of};
+use crate::repeated::{Parts, all_parts};
 use crate::{Branch, GrammarFault, Prod, Rule, Table};
 use std::alloc::{AllocError, Global};
 use std::marker::Model;
@@ -19,18 +23,25 @@ pub struct Grammar {
     table: Table,
     /// What each choice leads to, by the kind of the next token.
     cells: Vec<Cells>,
+    /// The parts of each production that is one part and a repetition.
+    parts: Vec<Option<Parts>>,
+    /// The rules that each production begins, one as the first part of another.
+    chains: Items<Chain>,
 }
 
 impl Model for Grammar {
     ghost use Rattle.grammar_core.specs.declared.table.Table.{Table};
     ghost use Rattle.grammar_core.specs.Choices.{AreByKind};
+    ghost use Rattle.grammar_core.specs.Chains.{AreChains};
+    ghost use Rattle.grammar_core.specs.Repetitions.{all_parts};
     ghost use Rattle.grammar_core.specs.Unfit.{IsFit};
+    ghost use Rattle.std.specs.Prelude.{◌≡◌};
 
     ghost Value = { Table };
 
     ghost view = { λ g. g.table };
 
-    ghost invariant = { λ g. IsFit g.table × AreByKind g.table.prods g.cells.items };
+    ghost invariant = { λ g. IsFit g.table × AreByKind g.table.prods g.cells.items × (g.parts.items ≡ all_parts g.table) × AreChains g.table g.chains };
 }
 
 impl Grammar {
@@ -86,7 +97,14 @@ impl Grammar {
         ensures { IfOk result (λ g. g ≡ table) }
     {
         let cells = all_cells(alloc, table.prods.as_slice())?;
-        Ok(Grammar { table, cells })
+        let parts = all_parts(alloc, &table)?;
+        let chains = Items::from_vec(all_chains(alloc, &table)?);
+        Ok(Grammar {
+            table,
+            cells,
+            parts,
+            chains,
+        })
     }
 
     pub(crate) fn table(&self) -> &Table
@@ -113,6 +131,21 @@ impl Grammar {
         let to = self.table.rules.as_slice()[r as usize];
         let nests = self.table.nests.as_slice()[r as usize];
         Rule { to, nests }
+    }
+
+    /// The parts of a production that is one part and a repetition.
+    pub(crate) fn parts(&self, p: u16) -> Option<Parts>
+        requires { p < length self.now.prods }
+        ensures { result ≡ repeated_parts self.now p }
+    {
+        self.parts[p as usize]
+    }
+
+    /// The rules that a production begins, if they are kept.
+    pub(crate) fn chain(&self, p: u16) -> Option<&Chain>
+        ensures { IfSome result (λ c. Leads self.now p c.now.links c.now.end) }
+    {
+        self.chains.get(p as usize)
     }
 
     /// The production of the branch that is taken at a place.

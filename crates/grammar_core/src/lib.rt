@@ -2,6 +2,7 @@
 #![tactic(auto)]
 
 mod builder;
+mod chains;
 mod choices;
 mod fault;
 mod fitness;
@@ -12,6 +13,7 @@ mod machine;
 mod marks;
 mod node;
 mod parser;
+mod repeated;
 mod table;
 mod tree;
 
@@ -24,6 +26,3 @@ pub use node::Node;
 pub use parser::{Parser, parse};
 pub use table::{Branch, Prod, Rule, Table};
 pub use tree::{NodeNo, Tree};
-
-#[cfg(test)]
-mod tests;

@@ -1,14 +1,16 @@
-ghost use Rattle.std.specs.Prelude.{◌≡◌, ◌+◌, ◌-◌, ◌<◌, ◌^◌, ◌++◌, [], ◌∷◌, length, reverse, MatchOption, MatchResult, Some, option_to_list, slice_get, ⊤};
+ghost use Rattle.std.specs.Prelude.{◌≡◌, ◌+◌, ◌-◌, ◌<◌, ◌^◌, ◌++◌, [], ◌∷◌, List, ℕ, length, map, reverse, MatchOption, MatchResult, Some, option_to_list, slice_get, ⊤};
 ghost use Rattle.grammar_core.specs.Answers.{of_production, whole};
 ghost use Rattle.grammar_core.specs.Arena.{read_trees};
 ghost use Rattle.grammar_core.specs.Derives.{kinds};
-ghost use Rattle.grammar_core.specs.Tasks.{AreTasks, IsStar, IsTask, Stepped, answer_at, reads, repeated_parts, rule_tasks, task, Meets};
-ghost use Rattle.grammar_core.specs.declared.machine.Task.TheVariants.{Repeat};
+ghost use Rattle.grammar_core.specs.Tasks.{AreTasks, Begun, IsStar, IsTask, Stepped, answer_at, reads, rule_tasks, task, Meets};
+ghost use Rattle.grammar_core.specs.declared.machine.Task.TheVariants.{Read, Repeat};
 ghost use Rattle.grammar_core.specs.Unfit.{IsFit};
 ghost use Rattle.grammar_core.specs.declared.table.Prod.TheVariants.{Call};
 
 use crate::builder::Builder;
+use crate::chains::Link;
 use crate::lookup::{level_in, next_is};
+use crate::repeated::Parts;
 use crate::{Grammar, ParseFault, Prod};
 use use_text::Token;
 
@@ -29,13 +31,6 @@ pub(crate) struct Position {
     pub(crate) prod: u16,
     pub(crate) level: u8,
     pub(crate) at: u32,
-}
-
-/// The two parts of a rule: what is read first, and a repetition behind it.
-#[derive(Clone, Copy)]
-pub(crate) struct Parts {
-    pub(crate) first: u16,
-    pub(crate) repeated: u16,
 }
 
 /// What a parse works on: the tasks that are left, the next one last, and the trees so far.
@@ -99,49 +94,60 @@ fn take_next(stack: &mut Vec<Task>, next: Option<Task>) -> Option<Task>
     }
 }
 
-/// The parts of a production that is one part and a repetition.
-fn repeated_parts(g: &Grammar, p: u16) -> Option<Parts>
-    requires fit { IsFit g.now }
-    requires inside { p < length g.now.prods }
-    ensures { result ≡ repeated_parts g.now p }
-{
-    let Prod::Seq(ps) = g.prod(p) else {
-        return None;
-    };
-    let [first, last] = ps.as_slice() else {
-        return None;
-    };
-    match g.prod(*last) {
-        Prod::Star(_, _) => Some(Parts {
-            first: *first,
-            repeated: *last,
-        }),
-        _ => None,
-    }
-}
-
-/// Leaves what a rule reads to be done, and its end.
-fn put_rule(g: &Grammar, r: u16, to: u16, level: u8, work: &mut Work) -> Result<Task, ParseFault>
+/// Leaves the end of a rule to be done, and says what it reads first.
+fn put_rule(g: &Grammar, r: u16, to: u16, level: u8, work: &mut Work) -> Result<u16, ParseFault>
     requires fit { IsFit g.now }
     requires inside { to < length g.now.prods }
-    ensures { MatchResult result (λ next. (work.new.stack.items ++ next ∷ []
+    ensures { MatchResult result (λ first. (work.new.stack.items ++ Read first level ∷ []
         ≡ work.old.stack.items ++ rule_tasks g.now r to level (length (read_trees work.old.built)))
         × (work.new.built ≡ work.old.built)) (λ e. e ≡ ParseFault.Memory) }
 {
     let start = work.built.len() as u64;
-    match repeated_parts(g, to) {
+    match g.parts(to) {
         Some(Parts { first, repeated }) => {
             put(&mut work.stack, Task::Repeat(repeated, level, r, start))?;
-            Ok(Task::Read(first, level))
+            Ok(first)
         }
         None => {
             put(&mut work.stack, Task::Close(r, start))?;
-            Ok(Task::Read(to, level))
+            Ok(to)
         }
     }
 }
 
-/// Begins a rule. Where it is one part and a repetition, the part comes next.
+/// Leaves the ends of rules that begin at a place to be done.
+fn put_links(stack: &mut Vec<Task>, level: u8, start: u64, links: &[Link]) -> Result<(), ParseFault>
+    ensures { MatchResult result (λ u. stack.new.items ≡ stack.old.items ++ map (λ l. Repeat l.repeated level l.rule start) links.now)
+        (λ e. e ≡ ParseFault.Memory) }
+{
+    'links: for link in links {
+        put(stack, Task::Repeat(link.repeated, level, link.rule, start))?;
+    }
+    Ok(())
+}
+
+/// Begins the rules that are read first here, and says what the last of them reads first.
+fn begin_chain(g: &Grammar, here: Position, work: &mut Work) -> Result<Position, ParseFault>
+    requires fit { IsFit g.now }
+    requires all { AreTasks g.now (work.old.stack.items ++ Read here.prod here.level ∷ []) }
+    ensures { MatchResult result (λ next. ((ks : List ℕ) → Begun g.now ks here next work.old.stack.items work.new.stack.items (read_trees work.old.built))
+        × (work.new.built ≡ work.old.built)) (λ e. e ≡ ParseFault.Memory) }
+{
+    let start = work.built.len() as u64;
+    match g.chain(here.prod) {
+        None => Ok(here),
+        Some(chain) => {
+            put_links(&mut work.stack, here.level, start, chain.links.as_slice())?;
+            Ok(Position {
+                prod: chain.end,
+                level: here.level,
+                at: here.at,
+            })
+        }
+    }
+}
+
+/// Begins a rule, and the rules that are its first part.
 fn step_rule(
     g: &Grammar,
     tokens: &[Token],
@@ -156,11 +162,17 @@ fn step_rule(
 {
     let rule = g.rule_in(r);
     match level_in(rule, here.level) {
-        Some(inner) => {
-            let next = put_rule(g, r, rule.to, inner, work)?;
+        Some(level) => {
+            let prod = put_rule(g, r, rule.to, level, work)?;
+            let inner = Position {
+                prod,
+                level,
+                at: here.at,
+            };
+            let next = begin_chain(g, inner, work)?;
             Ok(Done {
                 at: here.at,
-                next: Some(next),
+                next: Some(Task::Read(next.prod, next.level)),
             })
         }
         None => Err(ParseFault::Deep { token: here.at }),
