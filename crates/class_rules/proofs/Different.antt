@@ -22,7 +22,7 @@ use Rattle.class_rules.proofs.Queued.{itself, or_left, or_right}
 use Rattle.class_rules.proofs.Single.{same_self}
 use Rattle.class_rules.proofs.Unnumbered.{false_of, kept_on, left_false, not_done}
 
-right_false : (a b : Bool) → (a || b) ≡ false → b ≡ false
+pub right_false : (a b : Bool) → (a || b) ≡ false → b ≡ false
 right_false true b h = absurd (true≢false h)
 right_false false b h = h
 
@@ -44,16 +44,16 @@ different (x ∷ xs) h =
     (all_differ text_cmp xs) h))
     ∙ ap suc (different xs (second_of (not (has text_cmp xs x)) (all_differ text_cmp xs) h))
 
-not_less : (n : ℕ) → nat_lt n n ≡ false
+pub not_less : (n : ℕ) → nat_lt n n ≡ false
 not_less n = ⊎_elim (λ t. let k : suc n ≤ n = t.1 in absurd (omega arith)) (λ t. t.0) (leb_tells (suc n) n)
 
 pub no_repeat : (xs : List (List ℕ)) → all_differ text_cmp xs ≡ true → repeats xs ≡ false
 no_repeat xs h = ap (λ n. nat_lt n (length xs)) (different xs h) ∙ not_less (length xs)
 
-in_both : (a b : List (List ℕ)) (t : List ℕ) → has text_cmp (a ++ b) t ≡ (has text_cmp a t || has text_cmp b t)
+pub in_both : (a b : List (List ℕ)) (t : List ℕ) → has text_cmp (a ++ b) t ≡ (has text_cmp a t || has text_cmp b t)
 in_both a b t = list_any-append (λ y. is_eq (text_cmp t y)) a b
 
-left_differ : (a b : List (List ℕ)) → all_differ text_cmp (a ++ b) ≡ true → all_differ text_cmp a ≡ true
+pub left_differ : (a b : List (List ℕ)) → all_differ text_cmp (a ++ b) ≡ true → all_differ text_cmp a ≡ true
 left_differ [] b h = refl
 left_differ (x ∷ a) b h =
     ap₂ (λ p q. not p && q)
@@ -61,11 +61,11 @@ left_differ (x ∷ a) b h =
     (all_differ text_cmp (a ++ b)) h)))
     (left_differ a b (second_of (not (has text_cmp (a ++ b) x)) (all_differ text_cmp (a ++ b)) h))
 
-right_differ : (a b : List (List ℕ)) → all_differ text_cmp (a ++ b) ≡ true → all_differ text_cmp b ≡ true
+pub right_differ : (a b : List (List ℕ)) → all_differ text_cmp (a ++ b) ≡ true → all_differ text_cmp b ≡ true
 right_differ [] b h = h
 right_differ (x ∷ a) b h = right_differ a b (second_of (not (has text_cmp (a ++ b) x)) (all_differ text_cmp (a ++ b)) h)
 
-no_common : (a b : List (List ℕ)) → all_differ text_cmp (a ++ b) ≡ true → (t : List ℕ) → has text_cmp a t ≡ true → has text_cmp b t ≡ false
+pub no_common : (a b : List (List ℕ)) → all_differ text_cmp (a ++ b) ≡ true → (t : List ℕ) → has text_cmp a t ≡ true → has text_cmp b t ≡ false
 no_common [] b h t e = absurd (true≢false (sym e))
 no_common (x ∷ a) b h t e =
     ⊎_elim
@@ -79,7 +79,7 @@ no_common (x ∷ a) b h t e =
 pub tied : (x : List ℕ) → is_eq (text_cmp x x) ≡ true
 tied x = sym (texts_ties x x) ∙ same_self x
 
-joined : (a b : List (List ℕ)) → all_differ text_cmp a ≡ true → all_differ text_cmp b ≡ true → ((t : List ℕ) → has text_cmp a t ≡ true
+pub joined : (a b : List (List ℕ)) → all_differ text_cmp a ≡ true → all_differ text_cmp b ≡ true → ((t : List ℕ) → has text_cmp a t ≡ true
     → has text_cmp b t ≡ false) →
     all_differ text_cmp (a ++ b) ≡ true
 joined [] b h k f = k
@@ -89,6 +89,13 @@ joined (x ∷ a) b h k f =
     ∙ ap₂ (λ p q. p || q) (false_of (has text_cmp a x) (first_of (not (has text_cmp a x)) (all_differ text_cmp a) h)) (f x (or_left (is_eq (text_cmp x x))
     (has text_cmp a x) (tied x))))
     (joined a b (second_of (not (has text_cmp a x)) (all_differ text_cmp a) h) k (λ t e. f t (or_right (is_eq (text_cmp t x)) (has text_cmp a t) e)))
+
+-- a number below all others is not among them
+pub not_again : (n : ℕ) (ns : List ℕ) → AllByRecursion (λ w. nat_cmp n w ≡ Less) ns → is_among ns n ≡ true → ⊥
+not_again n [] h e = true≢false (sym e)
+not_again n (m ∷ ns) h e =
+    ⊎_elim (λ t. let low = ranked n m Less (sym h.0) in let k : n ≡ m = t.1 in omega arith) (λ t. not_again n ns h.1 (sym (ap
+    (λ b. b || is_among ns n) t.0) ∙ e)) (eqb_tells n m)
 
 module _ (f : ClassDecl → List (List ℕ)) where
   inside : (xs : List ClassDecl) (i : ℕ) (x : ClassDecl) → slice_get xs i ≡ Some x → (t : List ℕ) → has text_cmp (f x) t ≡ true
@@ -119,7 +126,7 @@ module _ (f : ClassDecl → List (List ℕ)) where
       absurd (true≢false (sym (inside cs i x a t e) ∙ no_common (f c) (flat_map f cs) h t (ap (λ d. has text_cmp (f d) t) here ∙ k)))
   same_place (c ∷ cs) h (suc i) (suc j) x y a b t e k = ap suc (same_place cs (right_differ (f c) (flat_map f cs) h) i j x y a b t e k)
 
-  chosen_by : (o : Option ClassDecl) (rest : List ClassDecl) → ((y : ClassDecl) → o ≡ Some y → all_differ text_cmp (f y) ≡ true) →
+  pub chosen_by : (o : Option ClassDecl) (rest : List ClassDecl) → ((y : ClassDecl) → o ≡ Some y → all_differ text_cmp (f y) ≡ true) →
       all_differ text_cmp (flat_map f rest) ≡ true →
       ((y : ClassDecl) → o ≡ Some y → (t : List ℕ) → has text_cmp (f y) t ≡ true → has text_cmp (flat_map f rest) t ≡ false) →
       all_differ text_cmp (flat_map f (cons_option o rest)) ≡ true
@@ -134,14 +141,14 @@ module _ (f : ClassDecl → List (List ℕ)) where
       (cases_Bool (has text_cmp (f y) t))
 
   -- a class with a name, its number and its place
-  record Named (g : ℕ → Option ClassDecl) (ns : List ℕ) (t : List ℕ) : Type 0 where
+  pub record Named (g : ℕ → Option ClassDecl) (ns : List ℕ) (t : List ℕ) : Type 0 where
     pub number : ℕ
     pub class : ClassDecl
     pub there : is_among ns number ≡ true
     pub is : g number ≡ Some class
     pub named : has text_cmp (f class) t ≡ true
 
-  named : (g : ℕ → Option ClassDecl) (ns : List ℕ) (t : List ℕ) → has text_cmp (flat_map f (filter_map g ns)) t ≡ true → Named g ns t
+  pub named : (g : ℕ → Option ClassDecl) (ns : List ℕ) (t : List ℕ) → has text_cmp (flat_map f (filter_map g ns)) t ≡ true → Named g ns t
   named g [] t h = absurd (true≢false (sym h))
   named g (n ∷ ns) t h =
       found_by (g n) (filter_map g ns) t h
@@ -165,12 +172,6 @@ module _ (f : ClassDecl → List (List ℕ)) where
 
     placed : (n : ℕ) (y : ClassDecl) → get n ≡ Some y → Placed n y
     placed n y e = placed_by n y (slice_get order n) refl e
-
-    not_again : (n : ℕ) (ns : List ℕ) → AllByRecursion (λ w. nat_cmp n w ≡ Less) ns → is_among ns n ≡ true → ⊥
-    not_again n [] h e = true≢false (sym e)
-    not_again n (m ∷ ns) h e =
-        ⊎_elim (λ t. let low = ranked n m Less (sym h.0) in let k : n ≡ m = t.1 in omega arith) (λ t. not_again n ns h.1 (sym (ap
-        (λ b. b || is_among ns n) t.0) ∙ e)) (eqb_tells n m)
 
     pub chosen_differ : (ns : List ℕ) → IsStrictlySortedBy nat_cmp ns → all_differ text_cmp (flat_map f (filter_map get ns)) ≡ true
     unfolding IsStrictlySortedBy
@@ -223,7 +224,7 @@ numbered_once : (parents : List (List ℕ)) → Once (numbering parents)
 numbered_once parents = kept_on Once parents (λ done i h low follows. once_more done i h (not_done parents done i follows)) [] (length parents)
     (λ n m p a b. cc)
 
-sorted_by : (parents : List (List ℕ)) (o : Option ℕ) → IsStrictlySortedBy nat_cmp (option_map_or (ancestors parents) o [])
+pub sorted_by : (parents : List (List ℕ)) (o : Option ℕ) → IsStrictlySortedBy nat_cmp (option_map_or (ancestors parents) o [])
 unfolding IsStrictlySortedBy
 sorted_by parents None = tt
 sorted_by parents (Some c) = rises-set_of nat_cmp_total (upward parents (suc c) c)

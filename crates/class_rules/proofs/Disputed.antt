@@ -112,7 +112,7 @@ declares_by : (t : List ℕ) (o : Option ClassDecl) →
 declares_by t None = refl
 declares_by t (Some c) = refl
 
-declares_is : (ds : Decls) (t : List ℕ) (n : ℕ) → declares_op ds t n ≡ list_any (λ op. same_text op.name.text t) (ops_numbered ds n)
+pub declares_is : (ds : Decls) (t : List ℕ) (n : ℕ) → declares_op ds t n ≡ list_any (λ op. same_text op.name.text t) (ops_numbered ds n)
 declares_is ds t n = declares_by t (class_numbered ds n)
 
 absorbed : (a b : Bool) → (true && a || (b && a)) ≡ ((true || b) && a)
@@ -130,7 +130,7 @@ module _ (ds : Decls) (t : List ℕ) where
       (λ e. ap (λ a. a && declares_op ds t n || (b && declares_op ds t z)) e.0 ∙ ap (λ a. (a || b) && declares_op ds t z) (sym e.0))
       (eqb_tells z n)
 
-  declaring_among : (ns : List ℕ) (z : ℕ) → is_among (declaring ds ns t) z ≡ (is_among ns z && declares_op ds t z)
+  pub declaring_among : (ns : List ℕ) (z : ℕ) → is_among (declaring ds ns t) z ≡ (is_among ns z && declares_op ds t z)
   declaring_among [] z = refl
   declaring_among (n ∷ ns) z =
       list_any-append (nat_eq z) (times_declared n t (ops_numbered ds n)) (declaring ds ns t)

@@ -27,7 +27,7 @@ all_flat : (f : ℕ → List ℕ) (P : ℕ → Type 0) (xs : List ℕ) → AllBy
 all_flat f P [] h = tt
 all_flat f P (x ∷ xs) h = all_joined P (f x) (flat_map f xs) h.0 (all_flat f P xs h.1)
 
-weaker : {P Q : ℕ → Type 0} → ((x : ℕ) → P x → Q x) → (xs : List ℕ) → AllByRecursion P xs → AllByRecursion Q xs
+pub weaker : {P Q : ℕ → Type 0} → ((x : ℕ) → P x → Q x) → (xs : List ℕ) → AllByRecursion P xs → AllByRecursion Q xs
 weaker f [] h = tt
 weaker f (x ∷ xs) h = (f x h.0, weaker f xs h.1)
 

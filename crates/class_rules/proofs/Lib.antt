@@ -14,3 +14,4 @@ pub mod Signatures
 pub mod Grouped
 pub mod ByName
 pub mod Disputed
+pub mod SharedNames

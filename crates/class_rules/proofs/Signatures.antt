@@ -159,12 +159,12 @@ module _ (kind : Clash) (has : OpDecl → Bool)
       (λ same. pair op other same h (first_of (has other) (list_all has ops) e)))
       (none_here op h ops (second_of (has other) (list_all has ops) e))
 
-none_by : (test : ClassDecl → Bool) (o : Option ClassDecl) (rest : List ClassDecl) → ((d : ClassDecl) → o ≡ Some d → test d ≡ false) →
+pub none_by : (test : ClassDecl → Bool) (o : Option ClassDecl) (rest : List ClassDecl) → ((d : ClassDecl) → o ≡ Some d → test d ≡ false) →
     list_any test rest ≡ false → list_any test (cons_option o rest) ≡ false
 none_by test None rest f h = h
 none_by test (Some d) rest f h = ap₂ (λ a b. a || b) (f d refl) h
 
-not_found : (b : Bool) (op : OpDecl) (o : Option OpDecl) → b ≡ false → option_map (λ x. x.name.place) o ≡ None
+pub not_found : (b : Bool) (op : OpDecl) (o : Option OpDecl) → b ≡ false → option_map (λ x. x.name.place) o ≡ None
     → option_map (λ x. x.name.place) (cond b (Some op) o) ≡ None
 not_found true op o h e = absurd (true≢false h)
 not_found false op o h e = e

@@ -53,7 +53,7 @@ pub all_at : (f : ℕ → Bool) (xs : List ℕ) (z : ℕ) → list_all f xs ≡ 
 all_at f [] z h e = absurd (true≢false (sym e))
 all_at f (x ∷ xs) z h e = each_of f x z (is_among xs z) (list_all f xs) h e (all_at f xs z)
 
-none_of : (f : ℕ → Bool) (xs : List ℕ) → ((z : ℕ) → is_among xs z ≡ true → f z ≡ false) → list_any f xs ≡ false
+pub none_of : (f : ℕ → Bool) (xs : List ℕ) → ((z : ℕ) → is_among xs z ≡ true → f z ≡ false) → list_any f xs ≡ false
 none_of f [] h = refl
 none_of f (x ∷ xs) h =
     ap₂ (λ a b. a || b) (h x (or_left (nat_eq x x) (is_among xs x) (itself x))) (none_of f xs (λ z e. h z (or_right (nat_eq z x) (is_among xs z) e)))

@@ -9,5 +9,6 @@ pub mod Declaring
 pub mod ClassOps
 pub mod Index
 pub mod Agreeing
+pub mod Shared
 pub mod ClassRules
 pub mod WellFormed

@@ -1,4 +1,6 @@
-ghost use Rattle.std.specs.Prelude.{◌≡◌, IfOk};
+ghost use Rattle.std.specs.Prelude.{◌≡◌, ℕ, IfOk, None, Some, false, slice_get};
+ghost use Rattle.class_decls.specs.declared.decls.ClassDecl.{ClassDecl};
+ghost use Rattle.class_rules.specs.Shared.{may_break};
 ghost use Rattle.class_rules.specs.Ancestors.{properly_above};
 ghost use Rattle.class_rules.specs.ClassRules.{broken_by, first_broken, first_op, named_if};
 ghost use Rattle.class_rules.specs.Operations.{clashes_above};
@@ -10,6 +12,7 @@ use crate::features::{has_too_many_features, meets_attribute_twice, role_clashes
 use crate::hierarchy::Hierarchy;
 use crate::index::Index;
 use crate::overriding::is_ambiguous;
+use crate::sharing::{Sharing, may_break, sharing_by_number};
 use crate::unbroken::is_unbroken;
 use class_decls::ClassDecl;
 use std::alloc::{AllocError, Global};
@@ -103,16 +106,37 @@ fn broken_at(
     }
 }
 
+/// The same, where a class need not be looked at that may not break the rule.
+fn broken_if_it_may(
+    alloc: Global,
+    index: &Index<'_>,
+    rule: ClassRule,
+    sharing: &[Sharing],
+    place: usize,
+    class: &ClassDecl,
+) -> Result<Option<Place>, AllocError>
+    requires { may_break rule index.now sharing.now place ≡ false → broken_by rule index.now place class.now ≡ None }
+    ensures { IfOk result (λ found. found ≡ broken_by rule index.now place class.now) }
+{
+    if !may_break(index.hierarchy(), rule, sharing, place) {
+        return Ok(None);
+    }
+    broken_at(alloc, index, rule, place, class)
+}
+
 fn first_broken_among(
     alloc: Global,
     index: &Index<'_>,
     rule: ClassRule,
+    sharing: &[Sharing],
     classes: &[ClassDecl],
 ) -> Result<Option<Place>, AllocError>
+    requires { (i : ℕ) (c : ClassDecl) → slice_get classes.now i ≡ Some c
+        → may_break rule index.now sharing.now i ≡ false → broken_by rule index.now i c ≡ None }
     ensures { IfOk result (λ found. found ≡ first_numbered (broken_by rule index.now) 0 classes.now) }
 {
     'classes: for (i, class) in classes.iter().enumerate() {
-        let found = broken_at(alloc, index, rule, i, class)?;
+        let found = broken_if_it_may(alloc, index, rule, sharing, i, class)?;
         if found.is_some() {
             return Ok(found);
         }
@@ -133,6 +157,7 @@ pub(crate) fn first_broken(
     if unbroken {
         return Ok(None);
     }
+    let sharing = sharing_by_number(alloc, index, rule)?;
     let classes = hierarchy.decls().classes.as_slice();
-    first_broken_among(alloc, index, rule, classes)
+    first_broken_among(alloc, index, rule, sharing.as_slice(), classes)
 }

@@ -55,7 +55,11 @@ fn op_texts(alloc: Global, classes: &[&ClassDecl]) -> Result<Vec<Text>, AllocErr
 }
 
 /// Adds copies of texts.
-fn add_copies(alloc: Global, copied: &[Text], texts: &mut Vec<Text>) -> Result<(), AllocError>
+pub(crate) fn add_copies(
+    alloc: Global,
+    copied: &[Text],
+    texts: &mut Vec<Text>,
+) -> Result<(), AllocError>
     ensures { OnOk result (texts.new.items ≡ texts.old.items ++ copied.now) }
 {
     'copied: for text in copied {

@@ -20,6 +20,7 @@ mod overriding;
 mod places;
 mod queue;
 mod rules;
+mod sharing;
 mod unbroken;
 
 pub use by_class::ClassRule;
@@ -27,6 +28,3 @@ pub use clash::Clash;
 pub use hierarchy::Hierarchy;
 pub use laws::{ancestors_are_least, classes_are_numbered, cycles_go_round};
 pub use rules::{RuleFault, judge};
-
-#[cfg(test)]
-mod tests;

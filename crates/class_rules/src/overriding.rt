@@ -53,7 +53,7 @@ fn declaring(
 }
 
 /// Whether a class alone declares an operation.
-fn is_alone(numbers: &[usize], number: usize) -> bool
+pub(crate) fn is_alone(numbers: &[usize], number: usize) -> bool
     ensures { result ≡ list_all (nat_eq number) numbers.now }
 {
     numbers.iter().all(|other| number == *other)
