@@ -18,6 +18,3 @@ pub use declared::push_some;
 pub use lexed::Lexed;
 pub use types::{kind_at, type_decl, type_if};
 pub use unbuilt::has_unbuilt_parts;
-
-#[cfg(test)]
-mod tests;

@@ -1,23 +1,25 @@
 -- The productions of the language give each rule what is said of its nodes: a test of the whole table, computed.
-use Rattle.std.proofs.Common.{◌≡◌, ◌==◌, ◌&&◌, ◌||◌, ℕ, zero, suc, not, if◌then◌else◌, Bool, true, false, List, [], ◌∷◌, filter, Option, Some, None, is_some, slice_get, refl, sym, ap, ◌∙◌, subst, arith, inl, inr, ◌⊎◌, ⊎_elim, eq-eqb}
+use Rattle.std.proofs.Common.{◌≡◌, ◌==◌, ◌&&◌, ◌||◌, ℕ, zero, suc, not, if◌then◌else◌, Bool, true, false, List, [], ◌∷◌, filter, length, Option, Some, None, is_some, slice_get, refl, sym, ap, ◌∙◌, subst, arith, inl, inr, ◌⊎◌, ⊎_elim, eq-eqb}
 use Rattle.std.proofs.lemmas.Bool.Decides.{nat_tests}
 use Rattle.grammar_core.specs.declared.table.Table.{Table}
 use Rattle.grammar_core.specs.Trees.{ParseTree, leaf, node, Row, row_of, trees_of}
 use Rattle.grammar_core.specs.Derives.{Outcome, Gives}
 use Rattle.use_text.specs.declared.token.TokenKind.{TokenKind}
+use Rattle.use_text.specs.declared.token.TokenKind.TheVariants as k
 use Rattle.use_syntax.specs.declared.rule.Rule.{Rule}
 use Rattle.use_syntax.specs.Language.{token_prods, call_prods, type_prods, expression_prods, statement_prods, command_prods, model_prods, all_prods, bodies, language}
 use Rattle.use_syntax.specs.Numbers.{number_of_rule}
 use Rattle.use_syntax.proofs.Ranked.{both, both_left, both_right}
 use Rattle.use_nodes.specs.declared.parts.Select.{Select}
-use Rattle.use_nodes.specs.Nodes.{is_rule, is_token, next_to, selects}
-use Rattle.use_nodes.specs.Typed.{Fact, there, maybe, each, some_of, either_of, one_more, Place, nth, after, first_of, is_there, is_if_there, are_all, is_one_of, is_so, are_so, facts, HasItsSorts}
+use Rattle.use_nodes.specs.Nodes.{all_behind, is_rule, is_token, next_to, selects}
+use Rattle.use_nodes.specs.Typed.{Fact, there, maybe, each, some_of, either_of, one_more, at_most_one, at_most_one_behind, is_at_most_one, Place, nth, after, first_of, is_there, is_if_there, are_all, is_one_of, is_so, are_so, facts, HasItsSorts}
 use Rattle.use_nodes.proofs.Required.{Need, is_met, all_rules, rule_there}
 use Rattle.use_nodes.proofs.Required as required
 use Rattle.use_nodes.proofs.Sure.{Sure, sure, sure_at, sure_sound, HoldsOf, has_one}
 use Rattle.use_nodes.proofs.Accepted.{is_enough, enough_met, selects_token, selects_rule, some_sought, sort_of, sort_of_token, sort_of_rule}
 use Rattle.use_nodes.proofs.Known.{known_at, is_known}
 use Rattle.use_nodes.proofs.Ways.{IsOfLabel, all_good, AllAreGood, all_way, good_if, Spots, spots, HasSpots, spot_way, first_good, follow_good, Edges, edges, HasEdges, edge_way, Balance, unknown, balance, IsBalance, balance_way, nodes_in, tokens_in, or_left, or_right}
+use Rattle.use_nodes.proofs.Counted.{Counts, counts, HasCounts, IsAtMost, count_way}
 use Rattle.use_nodes.proofs.Wholeness.{trees_back, rule_of_number}
 
 -- how many productions stand inside each other at most
@@ -71,6 +73,19 @@ good_at i (spots n m at) = at i
 abbrev follows : Edges → Bool
 follows (edges n f l q) = q
 
+abbrev one_at_most : Option ℕ → Bool
+one_at_most None = false
+one_at_most (Some zero) = true
+one_at_most (Some (suc zero)) = true
+one_at_most (Some (suc (suc k))) = false
+
+-- at most one in all, and behind the token
+abbrev one_in_all : Counts → Bool
+one_in_all (counts f m b) = one_at_most m
+
+abbrev one_later : Counts → Bool
+one_later (counts f m b) = one_at_most b
+
 abbrev is_one_more : Balance → Bool
 is_one_more unknown = false
 is_one_more (balance x y) = x == suc y
@@ -106,6 +121,10 @@ module _ (g : Table) where
   is_known_so (some_of select) p = has_known (selects select) p
   is_known_so (either_of a b) p = has_known (either_sort a b) p
   is_known_so one_more p = is_one_more (known_at Balance IsBalance balance_way g deep p)
+  is_known_so (at_most_one sorts) p =
+      one_in_all (known_at Counts (HasCounts k.End (λ t. is_one_of sorts t)) (count_way k.End (λ t. is_one_of sorts t) (one_of_label sorts)) g deep p)
+  is_known_so (at_most_one_behind kind select) p =
+      one_later (known_at Counts (HasCounts kind (selects select)) (count_way kind (selects select) (select_label select)) g deep p)
 
   abbrev are_known_so : List Fact → ℕ → Bool
   are_known_so [] p = true
@@ -136,6 +155,8 @@ so_in (each select sorts) ts = are_all sorts (filter (selects select) ts)
 so_in (some_of select) ts = is_some (slice_get (filter (selects select) ts) 0)
 so_in (either_of a b) ts = is_some (slice_get (filter (selects a) ts) 0) || is_some (slice_get (filter (selects b) ts) 0)
 so_in one_more ts = nodes_in ts == suc (tokens_in ts)
+so_in (at_most_one sorts) ts = is_at_most_one (filter (is_one_of sorts) ts)
+so_in (at_most_one_behind kind select) ts = is_at_most_one (filter (selects select) (all_behind kind ts))
 
 so_of_node : (fact : Fact) (n : ℕ) (row : Row) → so_in fact (trees_of row) ≡ true → is_so fact (node n row) ≡ true
 so_of_node (there (nth i) sorts) n row h = h
@@ -148,6 +169,8 @@ so_of_node (each select sorts) n row h = h
 so_of_node (some_of select) n row h = h
 so_of_node (either_of a b) n row h = h
 so_of_node one_more n row h = h
+so_of_node (at_most_one sorts) n row h = h
+so_of_node (at_most_one_behind kind select) n row h = h
 
 and_of : (a b : Bool) → a ≡ true → b ≡ true → (a && b) ≡ true
 and_of true b h k = k
@@ -226,6 +249,23 @@ balanced (balance x y) ts h e = let s : x ≡ suc y = same x (suc y) e in
     same : (m n : ℕ) → (m == n) ≡ true → m ≡ n
     same m n e = grind (arith, nat_tests)
 
+one_counted : (o : Option ℕ) (ts : List ParseTree) → IsAtMost o (length ts) → one_at_most o ≡ true → is_at_most_one ts ≡ true
+one_counted None ts h e = absurd (cc)
+one_counted (Some zero) [] h e = refl
+one_counted (Some zero) (t ∷ ts) h e = absurd (omega (arith, h))
+one_counted (Some (suc zero)) [] h e = refl
+one_counted (Some (suc zero)) (t ∷ []) h e = refl
+one_counted (Some (suc zero)) (t ∷ u ∷ ts) h e = absurd (omega (arith, h))
+one_counted (Some (suc (suc k))) ts h e = absurd (cc)
+
+counted_in_all : (kind : TokenKind) (sort : ParseTree → Bool) (d : Counts) (ts : List ParseTree) → HasCounts kind sort d ts → one_in_all d ≡ true
+    → is_at_most_one (filter sort ts) ≡ true
+counted_in_all kind sort (counts f m b) ts h e = one_counted m (filter sort ts) h.all e
+
+counted_later : (kind : TokenKind) (sort : ParseTree → Bool) (d : Counts) (ts : List ParseTree) → HasCounts kind sort d ts → one_later d ≡ true
+    → is_at_most_one (filter sort (all_behind kind ts)) ≡ true
+counted_later kind sort (counts f m b) ts h e = one_counted b (filter sort (all_behind kind ts)) h.later e
+
 spot_good : (sorts : List Select) (i : ℕ) (d : Spots) (ts : List ParseTree) → HasSpots (λ t. is_one_of sorts t) d ts
     → good_at i d ≡ true → good_if (λ t. is_one_of sorts t) (slice_get ts i) ≡ true
 spot_good sorts i (spots n m at) ts h e = h.fits i e
@@ -280,6 +320,15 @@ module _ (g : Table) (ks : List ℕ) (p level at to : ℕ) (trees : List ParseTr
   fact_sound (either_of a b) e = one_of_two a b trees (has_sound (either_sort a b) (either_label a b) e)
   fact_sound one_more e =
       balanced (known_at Balance IsBalance balance_way g deep p) trees (is_known Balance IsBalance balance_way g ks deep p level at to trees of) e
+  fact_sound (at_most_one sorts) e =
+      let sort : ParseTree → Bool = λ t. is_one_of sorts t in
+      let way = count_way k.End sort (one_of_label sorts) in
+      counted_in_all k.End sort (known_at Counts (HasCounts k.End sort) way g deep p) trees
+      (is_known Counts (HasCounts k.End sort) way g ks deep p level at to trees of) e
+  fact_sound (at_most_one_behind kind select) e =
+      let way = count_way kind (selects select) (select_label select) in
+      counted_later kind (selects select) (known_at Counts (HasCounts kind (selects select)) way g deep p) trees
+      (is_known Counts (HasCounts kind (selects select)) way g ks deep p level at to trees of) e
 
   facts_sound : (more : List Fact) (n : ℕ) → are_known_so g more p ≡ true → are_so more (node n (row_of trees)) ≡ true
   facts_sound [] n e = refl

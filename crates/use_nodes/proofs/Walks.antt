@@ -1,5 +1,5 @@
 -- What holds of each node that a rule's production gives holds of each node of a tree, and of a tree that a text is read as.
-use Rattle.std.proofs.Common.{◌≡◌, ◌<◌, ℕ, List, [], ◌∷◌, ◌++◌, length, Some, Ok, Err, slice_get, subst, arith}
+use Rattle.std.proofs.Common.{◌≡◌, ◌<◌, ℕ, List, [], ◌∷◌, ◌++◌, length, Some, Ok, Err, slice_get, ap, subst, arith}
 use Rattle.use_text.specs.declared.token.Token.{Token}
 use Rattle.use_text.specs.Tokens.{Tokens, tokens}
 use Rattle.grammar_core.specs.declared.table.Prod.{Prod}
@@ -98,3 +98,35 @@ module _ (P : ParseTree → Type 0) (of_node : (ks : List ℕ) (n p level at to 
 
   pub command_has : (first_line : ℕ) (text : List ℕ) → ReadHas P (read_command first_line text)
   command_has first_line text = read_has r.Command (omega (arith, rules_there)) (tokens first_line text)
+
+-- the tokens of what was read, and that its tree is derived from them
+pub record IsDerived (start : Rule) (found : Tokens) (ts : List Token) (tree : ParseTree) : Type 0 where
+  pub tokens : found ≡ Ok ts
+  pub derived : Derives language (kinds ts) (number_of_rule start) tree
+
+module _ (start : Rule) (there : number_of_rule start < length language.rules) where
+  judged_derived : (us : List Token) (v : Verdict) → Holds language (kinds us) (number_of_rule start) v → (ts : List Token) (tree : ParseTree)
+      → judged us v ≡ parsed ts tree → IsDerived start (Ok us) ts tree
+  judged_derived us (derived t) h ts tree e =
+      let same : us ≡ ts = cc in
+      let it : t ≡ tree = cc in
+      record {
+        tokens = ap Ok same;
+        derived = subst (λ (l : List Token). Derives language (kinds l) (number_of_rule start) tree) same
+            (subst (λ (x : ParseTree). Derives language (kinds us) (number_of_rule start) x) it h);
+      }
+  judged_derived us (stuck at) h ts tree e = absurd (cc)
+  judged_derived us (deep at) h ts tree e = absurd (cc)
+
+  read_derived : (found : Tokens) (ts : List Token) (tree : ParseTree) → read_lexed (number_of_rule start) found ≡ parsed ts tree → IsDerived start found ts tree
+  unfolding read_tokens
+  read_derived (Ok us) ts tree e =
+      judged_derived us (verdict language (kinds us) (number_of_rule start)) (computed_holds language (kinds us) is_fit (number_of_rule start) there) ts tree e
+  read_derived (Err x) ts tree e = absurd (cc)
+
+pub model_derived : (text : List ℕ) (ts : List Token) (tree : ParseTree) → read_model text ≡ parsed ts tree → IsDerived r.File (tokens 1 text) ts tree
+model_derived text = read_derived r.File (omega (arith, rules_there)) (tokens 1 text)
+
+pub command_derived : (first_line : ℕ) (text : List ℕ) (ts : List Token) (tree : ParseTree) → read_command first_line text ≡ parsed ts tree
+    → IsDerived r.Command (tokens first_line text) ts tree
+command_derived first_line text = read_derived r.Command (omega (arith, rules_there)) (tokens first_line text)

@@ -7,4 +7,5 @@ pub mod CommandNodes
 pub mod ModelNodes
 pub mod Whole
 pub mod Typed
+pub mod Depth
 pub mod Written

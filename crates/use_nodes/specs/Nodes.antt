@@ -65,6 +65,11 @@ next_to kind (t ∷ ts) = if is_token kind t then slice_get ts 0 else next_to ki
 abbrev pub behind : TokenKind → ParseTree → Option ParseTree
 behind kind t = next_to kind (below t)
 
+-- everything that stands behind the first token of this kind
+abbrev pub all_behind : TokenKind → List ParseTree → List ParseTree
+all_behind kind [] = []
+all_behind kind (t ∷ ts) = if is_token kind t then ts else all_behind kind ts
+
 -- the second token of this kind right below
 abbrev pub second : TokenKind → ParseTree → Option ParseTree
 second kind t = slice_get (parts (s.Token kind) t) 1

@@ -1,17 +1,17 @@
 -- A tree is typed where each of its nodes, at any depth, has below it what the grammar gives its rule: at each place, behind
 -- each token and in each list a node of the right rule or a token of the right kind.
-use Rattle.std.specs.Prelude.{◌≡◌, ℕ, suc, ◌==◌, ◌&&◌, ◌||◌, Bool, true, false, List, [], ◌∷◌, ◌++◌, length, map, Option, Some, None, is_some}
+use Rattle.std.specs.Prelude.{◌≡◌, ℕ, suc, ◌==◌, ◌&&◌, ◌||◌, Bool, true, false, List, [], ◌∷◌, ◌++◌, length, filter, map, Option, Some, None, is_some}
 use Rattle.use_text.specs.declared.token.Token.{Token}
 use Rattle.use_text.specs.declared.token.TokenKind.{TokenKind}
 use Rattle.use_text.specs.declared.token.TokenKind.TheVariants as k
-use Rattle.grammar_core.specs.Trees.{ParseTree, onto, Row}
+use Rattle.grammar_core.specs.Trees.{ParseTree, below, onto, Row}
 use Rattle.use_syntax.specs.declared.rule.Rule.{Rule}
 use Rattle.use_syntax.specs.declared.rule.Rule.TheVariants as r
 use Rattle.use_syntax.specs.Firsts.{kinds, names}
 use Rattle.use_syntax.specs.Reading.{Reading, parsed}
 use Rattle.use_nodes.specs.declared.parts.Select.{Select}
 use Rattle.use_nodes.specs.declared.parts.Select.TheVariants as s
-use Rattle.use_nodes.specs.Nodes.{behind, child, EachNode, is_rule, part, parts, selects}
+use Rattle.use_nodes.specs.Nodes.{all_behind, behind, child, EachNode, is_rule, part, parts, selects}
 
 -- it is one of these
 abbrev pub is_one_of : List Select → ParseTree → Bool
@@ -43,6 +43,10 @@ pub data Fact : Type 0 where
   either_of : Select → Select → Fact
   -- the nodes are one more than the tokens
   one_more : Fact
+  -- at most one is there of those that are sought in any of these ways
+  at_most_one : List Select → Fact
+  -- at most one that is sought stands behind the first token of this kind
+  at_most_one_behind : TokenKind → Select → Fact
 
 abbrev pub is_there : List Select → Option ParseTree → Bool
 is_there sorts None = false
@@ -56,6 +60,11 @@ abbrev pub are_all : List Select → List ParseTree → Bool
 are_all sorts [] = true
 are_all sorts (t ∷ ts) = is_one_of sorts t && are_all sorts ts
 
+abbrev pub is_at_most_one : List ParseTree → Bool
+is_at_most_one [] = true
+is_at_most_one (t ∷ []) = true
+is_at_most_one (t ∷ u ∷ ts) = false
+
 abbrev pub is_so : Fact → ParseTree → Bool
 is_so (there place sorts) t = is_there sorts (part_at place t)
 is_so (maybe place sorts) t = is_if_there sorts (part_at place t)
@@ -63,6 +72,8 @@ is_so (each select sorts) t = are_all sorts (parts select t)
 is_so (some_of select) t = is_some (part select t)
 is_so (either_of select other) t = is_some (part select t) || is_some (part other t)
 is_so one_more t = length (parts s.Rules t) == suc (length (parts s.Tokens t))
+is_so (at_most_one sorts) t = is_at_most_one (filter (is_one_of sorts) (below t))
+is_so (at_most_one_behind kind select) t = is_at_most_one (filter (selects select) (all_behind kind (below t)))
 
 abbrev pub are_so : List Fact → ParseTree → Bool
 are_so [] t = true
@@ -94,7 +105,7 @@ facts r.Command =
 facts r.Names = each (s.Except k.Comma) a_name ∷ some_of (s.Except k.Comma) ∷ []
 facts r.Type = there (nth 0) (a_name ++ a_kind) ∷ maybe (after k.LeftParen) (a_rule r.Type) ∷ []
 facts r.Item = there (nth 0) (a_rule r.Expr) ∷ maybe (after k.Colon) (a_rule r.Type) ∷ maybe (after k.Equal) (a_rule r.Expr) ∷ []
-facts r.Args = maybe (after k.Semicolon) (a_rule r.Item) ∷ maybe (after k.Bar) (a_rule r.Expr) ∷ []
+facts r.Args = maybe (after k.Semicolon) (a_rule r.Item) ∷ maybe (after k.Bar) (a_rule r.Expr) ∷ at_most_one_behind k.Semicolon (s.Rule r.Item) ∷ []
 facts r.Part = there (nth 0) (a_rule r.Expr) ∷ maybe (after k.DoubleDot) (a_rule r.Expr) ∷ []
 facts r.Collection = there (nth 0) a_kind ∷ []
 facts r.Named = there (nth 0) a_name ∷ maybe (after k.DoubleColon) a_name ∷ []
@@ -103,14 +114,16 @@ facts r.Group = there (after k.LeftParen) (a_rule r.Expr) ∷ []
 facts r.Choice = there (after k.If) (a_rule r.Expr) ∷ there (after k.Then) (a_rule r.Expr) ∷ there (after k.Else) (a_rule r.Expr) ∷ []
 facts r.Primary =
     there (nth 0) (map s.Token (k.Int ∷ k.Str ∷ k.True ∷ k.False ∷ k.Null ∷ k.Undefined ∷ k.Invalid ∷ []) ++ a_rule r.Literal ++ a_rule r.Collection
-    ++ a_rule r.Named ++ a_rule r.Group ++ a_rule r.Choice) ∷ []
+    ++ a_rule r.Named ++ a_rule r.Group ++ a_rule r.Choice) ∷ at_most_one (s.Rules ∷ s.Tokens ∷ []) ∷ []
 facts r.Dot = there (after k.Dot) (a_name ++ a_token k.Div ++ a_token k.Mod) ∷ []
 facts r.Arrow = there (after k.Arrow) a_name ∷ []
-facts r.Postfix = there (nth 0) (a_rule r.Primary) ∷ []
+facts r.Postfix =
+    there (nth 0) (a_rule r.Primary) ∷ at_most_one (a_rule r.Primary) ∷ each s.Rules (a_rule r.Primary ++ a_rule r.Dot ++ a_rule r.Arrow)
+    ∷ each s.Tokens [] ∷ []
 facts r.Bind = there (nth 0) a_name ∷ maybe (after k.Colon) (a_rule r.Type) ∷ there (after k.Equal) (a_rule r.Expr) ∷ []
-facts r.Let = some_of (s.Rule r.Bind) ∷ there (after k.In) (a_rule r.Expr) ∷ []
+facts r.Let = some_of (s.Rule r.Bind) ∷ there (after k.In) (a_rule r.Expr) ∷ some_of (s.Token k.Let) ∷ []
 facts r.Unary = there (first_of s.Rules) (a_rule r.Unary ++ a_rule r.Let ++ a_rule r.Postfix) ∷ maybe (first_of s.Tokens) (a_token k.Not
-    ++ a_token k.Minus) ∷ []
+    ++ a_token k.Minus) ∷ at_most_one (s.Rules ∷ []) ∷ []
 facts r.Muls = chain r.Unary (k.Star ∷ k.Div ∷ k.Mod ∷ [])
 facts r.Sums = chain r.Muls (k.Plus ∷ k.Minus ∷ [])
 facts r.Rels = chain r.Sums (k.Less ∷ k.LessEqual ∷ k.Greater ∷ k.GreaterEqual ∷ [])

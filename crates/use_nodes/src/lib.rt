@@ -18,7 +18,7 @@ pub use expressions::{
     ArgsNode, ArrowNode, BindNode, ChainNode, ChoiceNode, CollectionNode, DotNode, GroupNode,
     ItemNode, LetNode, LiteralNode, NamedNode, PartNode, PostfixNode, PrimaryNode, UnaryNode,
 };
-pub use law::{trees_are_typed, trees_are_whole};
+pub use law::{integers_are_numbers, trees_are_shallow, trees_are_typed, trees_are_whole};
 pub use models::{
     AssocEndNode, AssocNode, AttributeNode, ClassNode, CondNode, ConstraintsNode, ContextNode,
     EnumNode, FileNode, HeadNode, InvNode, MultNode, OperNode, ParamNode, ParamsNode, ParentsNode,
@@ -31,6 +31,3 @@ pub use statements::{
 };
 pub use types::{NamesNode, TypeNode};
 pub use use_syntax::place_of_first;
-
-#[cfg(test)]
-mod tests;

@@ -27,6 +27,3 @@ pub use read::{read_command, read_model};
 pub use reader::Reader;
 pub use rule::Rule;
 pub use table::grammar;
-
-#[cfg(test)]
-mod tests;

@@ -1,4 +1,0 @@
-use Rattle.use_syntax.proofs.tests.+show.Given as goal
-
-abbrev pub decreases-show : goal.decreases-show
-decreases-show l = l.n
