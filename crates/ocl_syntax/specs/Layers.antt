@@ -35,7 +35,7 @@ use Rattle.ocl_syntax.specs.declared.layer.PartHead.TheVariants.{One, Range}
 use Rattle.ocl_syntax.specs.declared.layer.Piece.{Piece}
 use Rattle.ocl_syntax.specs.declared.layer.Piece.TheVariants.{Node, Row, Binds}
 use Rattle.ocl_syntax.specs.Plain.{plain}
-use Rattle.ocl_syntax.specs.Tokens.{binary_operator, place_at, place_of_mark, unary_operator, value_at}
+use Rattle.ocl_syntax.specs.Tokens.{binary_operator, literal_at, place_at, place_of_mark, unary_operator}
 
 -- a node that lacks a part; none in a tree that was read does
 abbrev pub lacking : Layer
@@ -148,7 +148,7 @@ abbrev pub let_layer : LexedText → ParseTree → LetNode → Layer
 let_layer l t node = binds_layer l (Some (place_of_mark l k.Let t)) node.binds node.body
 
 abbrev pub literal_layer : LexedText → PrimaryNode → Layer
-literal_layer l node = option_map_or (λ value. record { head = h.Literal (place_at l node.form) value; inner = [] }) (value_at l node.form) lacking
+literal_layer l node = option_map_or (λ x. record { head = h.Literal (place_at l node.form) x; inner = [] }) (literal_at l node.form) lacking
 
 abbrev pub only_literal_layer : LexedText → ParseTree → LiteralNode → Layer
 only_literal_layer l t node = record { head = h.OnlyLiteral (place_of_mark l k.Hash t) (name_at l node.name); inner = [] }

@@ -1,6 +1,10 @@
 pub mod Plain
 pub mod Tokens
+pub mod Values
 pub mod Layers
 pub mod Made
 pub mod Expressions
 pub mod Places
+pub mod Within
+pub mod Standing
+pub mod InTexts

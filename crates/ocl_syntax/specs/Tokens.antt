@@ -10,9 +10,9 @@ use Rattle.grammar_core.specs.Trees.{ParseTree}
 use Rattle.use_syntax.specs.Reading.{place_or}
 use Rattle.use_nodes.specs.declared.parts.Select.TheVariants as s
 use Rattle.use_nodes.specs.Nodes.{and_then, is_token, part, token_in}
-use Rattle.ocl_values.specs.declared.value.Value.{Value}
-use Rattle.ocl_values.specs.declared.value.Value.TheVariants as v
 use Rattle.use_decls.specs.Names.{LexedText, bytes_at, number_at}
+use Rattle.ocl_syntax.specs.declared.tree.WrittenLiteral.{WrittenLiteral}
+use Rattle.ocl_syntax.specs.declared.tree.WrittenLiteral.TheVariants as w
 use Rattle.ocl_syntax.specs.declared.tree.WrittenUnary.{WrittenUnary}
 use Rattle.ocl_syntax.specs.declared.tree.WrittenUnary.TheVariants.{Not, Neg}
 use Rattle.ocl_syntax.specs.declared.tree.WrittenBinary.{WrittenBinary}
@@ -26,24 +26,24 @@ place_at l t = place_or (token_in l.tokens t)
 abbrev pub place_of_mark : LexedText → TokenKind → ParseTree → Place
 place_of_mark l kind t = place_or (and_then (part (s.Token kind) t) (token_in l.tokens))
 
--- the value that a word stands for
-abbrev pub word_value : ParseTree → Option Value
-word_value t =
-    if is_token k.True t then Some (v.Bool true)
-    else (if is_token k.False t then Some (v.Bool false)
-    else (if is_token k.Null t then Some v.Null
-    else (if is_token k.Undefined t then Some v.Null
-    else (if is_token k.Invalid t then Some v.Invalid else None))))
+-- the literal that a word is
+abbrev pub word_literal : ParseTree → Option WrittenLiteral
+word_literal t =
+    if is_token k.True t then Some (w.Bool true)
+    else (if is_token k.False t then Some (w.Bool false)
+    else (if is_token k.Null t then Some w.Null
+    else (if is_token k.Undefined t then Some w.Null
+    else (if is_token k.Invalid t then Some w.Invalid else None))))
 
 -- the String that a token between quotes stands for
-abbrev pub string_at : LexedText → ParseTree → Value
-string_at l t = v.Str (utf8_lossy (string_of_quoted (bytes_at l t)))
+abbrev pub string_at : LexedText → ParseTree → WrittenLiteral
+string_at l t = w.Str (utf8_lossy (string_of_quoted (bytes_at l t)))
 
--- the value that a token stands for
-abbrev pub value_at : LexedText → ParseTree → Option Value
-value_at l t =
-    if is_token k.Int t then option_map v.Int (number_at l t)
-    else (if is_token k.Str t then Some (string_at l t) else word_value t)
+-- the literal that a token is
+abbrev pub literal_at : LexedText → ParseTree → Option WrittenLiteral
+literal_at l t =
+    if is_token k.Int t then option_map w.Int (number_at l t)
+    else (if is_token k.Str t then Some (string_at l t) else word_literal t)
 
 -- the operator before an operand
 abbrev pub unary_operator : ParseTree → WrittenUnary

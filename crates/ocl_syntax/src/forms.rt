@@ -6,7 +6,7 @@ ghost use Rattle.use_decls.specs.Names.{name_at};
 use crate::layer::{ArgumentLayer, Behind, Head, Layer, Piece};
 use crate::passed::{arguments_at, part_heads, parts_inner};
 use crate::plain::plain;
-use crate::tokens::{binary_operator, place_at, place_of_mark, unary_operator, value_at};
+use crate::tokens::{binary_operator, literal_at, place_at, place_of_mark, unary_operator};
 use class_decls::Name;
 use std::alloc::{AllocError, Global};
 use use_decls::{Lexed, kind_at, type_if};
@@ -297,10 +297,10 @@ fn literal_layer<'a>(
 ) -> Result<Layer<'a>, AllocError>
     ensures { IfOk result (λ y. y ≡ literal_layer lexed.now node.now) }
 {
-    match value_at(alloc, lexed, &node.form)? {
+    match literal_at(alloc, lexed, &node.form)? {
         None => Ok(lacking(alloc)),
-        Some(value) => Ok(Layer {
-            head: Head::Literal(place_at(lexed, &node.form), value),
+        Some(literal) => Ok(Layer {
+            head: Head::Literal(place_at(lexed, &node.form), literal),
             inner: Items::new(alloc),
         }),
     }

@@ -1,6 +1,6 @@
-use crate::{WrittenBinary, WrittenUnary};
+use crate::{WrittenBinary, WrittenLiteral, WrittenUnary};
 use class_decls::{Name, TypeDecl};
-use ocl_values::{Kind, Value};
+use ocl_values::Kind;
 use use_lists::Items;
 use use_nodes::{NodeRef, Parts};
 use use_text::Place;
@@ -48,7 +48,7 @@ pub(crate) enum Head {
     Lacking,
     /// The one expression that stands in it.
     Same,
-    Literal(Place, Value),
+    Literal(Place, WrittenLiteral),
     OnlyLiteral(Place, Name),
     Named(Name, Option<Name>, bool, Option<Items<ArgumentHead>>),
     Collection(Place, Kind, Items<PartHead>),

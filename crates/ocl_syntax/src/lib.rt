@@ -4,7 +4,9 @@
 mod collected;
 mod expression;
 mod forms;
+mod laws;
 mod layer;
+mod literal;
 mod made;
 mod passed;
 mod places;
@@ -13,7 +15,7 @@ mod tokens;
 mod tree;
 
 pub use expression::written;
-pub use tree::{Argument, Written, WrittenBinary, WrittenPart, WrittenUnary};
-
-#[cfg(test)]
-mod tests;
+pub use laws::{
+    places_are_those_of_tokens, places_in_texts_are_those_of_tokens, places_stand_in_expressions,
+};
+pub use tree::{Argument, Written, WrittenBinary, WrittenLiteral, WrittenPart, WrittenUnary};

@@ -279,7 +279,7 @@ pub(crate) fn made_of(alloc: Global, head: Head, mut made: Made) -> Result<Writt
     match head {
         Head::Lacking => Ok(left_out()),
         Head::Same => Ok(made.take()),
-        Head::Literal(place, value) => Ok(Written::Literal(place, value)),
+        Head::Literal(place, literal) => Ok(Written::Literal(place, literal)),
         Head::OnlyLiteral(place, name) => Ok(Written::OnlyLiteral(place, name)),
         Head::Named(name, literal, is_before, heads) => {
             named(alloc, name, literal, is_before, heads, made)

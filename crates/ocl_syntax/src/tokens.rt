@@ -1,8 +1,8 @@
 ghost use Rattle.std.specs.Prelude.{◌≡◌, IfOk};
-ghost use Rattle.ocl_syntax.specs.Tokens.{arithmetic_operator, binary_operator, comparison_or_arithmetic, place_at, place_of_mark, string_at, unary_operator, value_at, word_value};
+ghost use Rattle.ocl_syntax.specs.Tokens.{arithmetic_operator, binary_operator, comparison_or_arithmetic, place_at, place_of_mark, string_at, unary_operator, literal_at, word_literal};
 
-use crate::{WrittenBinary, WrittenUnary};
-use ocl_values::{Text, Value};
+use crate::{WrittenBinary, WrittenLiteral, WrittenUnary};
+use ocl_values::Text;
 use std::alloc::{AllocError, Global};
 use use_decls::Lexed;
 use use_nodes::{NodeRef, Select};
@@ -25,46 +25,50 @@ pub(crate) fn place_of_mark(lexed: &Lexed<'_>, kind: TokenKind, node: &NodeRef<'
     }
 }
 
-fn word_value(node: &NodeRef<'_>) -> Option<Value>
-    ensures { result ≡ word_value node.now }
+fn word_literal(node: &NodeRef<'_>) -> Option<WrittenLiteral>
+    ensures { result ≡ word_literal node.now }
 {
     if node.is_token(TokenKind::True) {
-        Some(Value::Bool(true))
+        Some(WrittenLiteral::Bool(true))
     } else if node.is_token(TokenKind::False) {
-        Some(Value::Bool(false))
+        Some(WrittenLiteral::Bool(false))
     } else if node.is_token(TokenKind::Null) {
-        Some(Value::Null)
+        Some(WrittenLiteral::Null)
     } else if node.is_token(TokenKind::Undefined) {
-        Some(Value::Null)
+        Some(WrittenLiteral::Null)
     } else if node.is_token(TokenKind::Invalid) {
-        Some(Value::Invalid)
+        Some(WrittenLiteral::Invalid)
     } else {
         None
     }
 }
 
-fn string_at(alloc: Global, lexed: &Lexed<'_>, node: &NodeRef<'_>) -> Result<Value, AllocError>
+fn string_at(
+    alloc: Global,
+    lexed: &Lexed<'_>,
+    node: &NodeRef<'_>,
+) -> Result<WrittenLiteral, AllocError>
     ensures { IfOk result (λ v. v ≡ string_at lexed.now node.now) }
 {
     let bytes = string_of_quoted(alloc, lexed.bytes_at(node))?;
     let text = String::from_utf8_lossy(alloc, bytes.as_slice())?;
-    Ok(Value::Str(Text::from_string(text)))
+    Ok(WrittenLiteral::Str(Text::from_string(text)))
 }
 
-/// The value that a token stands for.
-pub(crate) fn value_at(
+/// The literal that a token is.
+pub(crate) fn literal_at(
     alloc: Global,
     lexed: &Lexed<'_>,
     node: &NodeRef<'_>,
-) -> Result<Option<Value>, AllocError>
-    ensures { IfOk result (λ v. v ≡ value_at lexed.now node.now) }
+) -> Result<Option<WrittenLiteral>, AllocError>
+    ensures { IfOk result (λ v. v ≡ literal_at lexed.now node.now) }
 {
     if node.is_token(TokenKind::Int) {
-        Ok(lexed.number_at(node).map(|n| Value::Int(n)))
+        Ok(lexed.number_at(node).map(|n| WrittenLiteral::Int(n)))
     } else if node.is_token(TokenKind::Str) {
         Ok(Some(string_at(alloc, lexed, node)?))
     } else {
-        Ok(word_value(node))
+        Ok(word_literal(node))
     }
 }
 

@@ -1,5 +1,5 @@
 use class_decls::{Name, TypeDecl};
-use ocl_values::{Kind, Value};
+use ocl_values::{Kind, Text};
 use use_lists::{Boxed, Items};
 use use_text::Place;
 
@@ -30,14 +30,24 @@ pub enum WrittenBinary {
     Mod,
 }
 
+/// What a literal says: a number, a String, `true`, `false`, `null`, `Undefined` (null) or `invalid`.
+#[derive(Debug, Drop, PartialEq, Eq)]
+pub enum WrittenLiteral {
+    Null,
+    Invalid,
+    Bool(bool),
+    Int(i128),
+    Str(Text),
+}
+
 /// An expression as it is written (OCL 2.3.1, clause 9), its names not yet looked up.
 #[cycle(written)]
 #[derive(Debug, Drop)]
 pub enum Written {
     /// A node deeper than expressions may nest, by its place; what stands in it is left out.
     TooDeep(Place),
-    /// A number, a String, `true`, `false`, `null`, `Undefined` (null) or `invalid`.
-    Literal(Place, Value),
+    /// A literal, and its place.
+    Literal(Place, WrittenLiteral),
     /// `#a`; the place is that of `#`.
     OnlyLiteral(Place, Name),
     /// A name, `E::a` or `op(args)`; the flag says that `@pre` follows.
