@@ -70,11 +70,7 @@ fn all_conform(model: &ClassModel, params: &[Parameter], args: &[Typed]) -> bool
 }
 
 /// The rule that arguments break against the parameters of a model's operation.
-pub(crate) fn broken_arguments(
-    model: &ClassModel,
-    params: &[Parameter],
-    args: &[Typed],
-) -> Option<u8>
+pub fn broken_arguments(model: &ClassModel, params: &[Parameter], args: &[Typed]) -> Option<u8>
     ensures { result ≡ broken_arguments (λ p a. conforms_to model.now p.of_type a) params.now args.now }
 {
     if args.len() != params.len() {
@@ -110,7 +106,7 @@ fn expr_of(arg: Typed) -> Expr
 }
 
 /// The expressions of arguments.
-pub(crate) fn exprs_of(alloc: Global, args: Vec<Typed>) -> Result<Items<Expr>, AllocError>
+pub fn exprs_of(alloc: Global, args: Vec<Typed>) -> Result<Items<Expr>, AllocError>
     ensures { IfOk result (λ all. all ≡ exprs args.items) }
 {
     let all = args.into_iter().map(expr_of).collect::<Vec<Expr>>(alloc)?;

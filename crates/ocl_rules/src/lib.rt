@@ -14,6 +14,7 @@ mod typed;
 mod value_operations;
 mod value_table;
 
+pub use arguments::{broken_arguments, exprs_of};
 pub use collection_operations::{collection_call_rule, collection_operation, innermost};
 pub use collection_table::{
     COLLECTION_OPERATIONS, CollectionOperation, Gives, Param, Params, Sources,
@@ -30,6 +31,3 @@ pub use properties::{
 pub use typed::{Typed, TypedPart};
 pub use value_operations::{value_operation, value_rule};
 pub use value_table::{PlainType, VALUE_OPERATIONS, ValueOperation, ValueParams, ValueResult};
-
-#[cfg(test)]
-mod tests;

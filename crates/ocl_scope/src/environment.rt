@@ -1,10 +1,11 @@
 ghost use Rattle.std.specs.Prelude.{◌≡◌, ◌+◌, ◌<◌, ◌^◌, OnErr, OnOk};
 ghost use Rattle.std.specs.Option.{option_copied};
-ghost use Rattle.ocl_scope.specs.Environments.{back_to, has_name, no_variables, scope_of, variable_named, with_values, with_variable};
+ghost use Rattle.ocl_scope.specs.Environments.{back_to, has_name, no_variables, renamed, scope_of, variable_named, with_name, with_values, with_variable};
 
 use class_model::OclType;
 use ocl_values::Text;
 use std::alloc::{AllocError, Global};
+use std::mem;
 use use_lists::Items;
 
 /// What a name may stand for.
@@ -86,6 +87,32 @@ impl Environment {
         })?;
         self.size += 1;
         Ok(())
+    }
+
+    /// One name more, the innermost, of a value that has a number already.
+    pub fn push_name(&mut self, name: Text, of_type: OclType, number: u32) -> Result<(), AllocError>
+        ensures ok { OnOk result (self.new ≡ with_name self.old name of_type number) }
+        ensures err { OnErr result (self.new ≡ self.old) }
+    {
+        self.variables.push(Variable {
+            name: Some(name),
+            of_type,
+            number,
+            is_implicit: false,
+        })
+    }
+
+    /// Another name and another type for the variable at a place, counted from the outermost. Its value
+    /// keeps its number.
+    pub fn rename(&mut self, alloc: Global, at: usize, name: Text, of_type: OclType)
+        ensures { self.new ≡ renamed self.old at name of_type }
+    {
+        let mut variables = mem::replace(&mut self.variables, Items::new(alloc)).into_vec();
+        if let Some(variable) = variables.get_mut(at) {
+            variable.name = Some(name);
+            variable.of_type = of_type;
+        }
+        self.variables = Items::from_vec(variables);
     }
 
     /// So many values more, which no name stands for.

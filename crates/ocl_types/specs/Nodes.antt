@@ -2,7 +2,6 @@
 use Rattle.std.specs.Prelude.{ℕ, Bool, true, false, if◌then◌else◌, List, [], ◌∷◌, Option, Some, None, is_some, unwrap_or}
 use Rattle.use_text.specs.declared.place.Place.{Place}
 use Rattle.ocl_values.specs.declared.value.Kind.{Kind}
-use Rattle.ocl_values.specs.declared.value.Value.{Value}
 use Rattle.class_decls.specs.declared.decls.Name.{Name}
 use Rattle.class_decls.specs.declared.decls.TypeDecl.{TypeDecl}
 use Rattle.class_model.specs.declared.object_model.ObjectModel.{ObjectModel}
@@ -14,6 +13,8 @@ use Rattle.ocl_syntax.specs.declared.tree.Written.{Written}
 use Rattle.ocl_syntax.specs.declared.tree.Argument.TheOpen.{Written-F, WrittenPart-F}
 use Rattle.ocl_syntax.specs.declared.tree.WrittenBinary.{WrittenBinary}
 use Rattle.ocl_syntax.specs.declared.tree.WrittenPart.{WrittenPart, out-WrittenPart}
+use Rattle.ocl_syntax.specs.Values.{literal_value}
+use Rattle.ocl_syntax.specs.declared.tree.WrittenLiteral.{WrittenLiteral}
 use Rattle.ocl_syntax.specs.declared.tree.WrittenUnary.{WrittenUnary}
 use Rattle.ocl_syntax.specs.Places.{first_place}
 use Rattle.ocl_rules.specs.CollectionOperations.{collection_operation}
@@ -61,8 +62,8 @@ abbrev pub with_implicit : Environment → OclType → Environment
 with_implicit env t = with_variable env None t true
 
 -- a literal
-abbrev pub literal : Value → Typing Typed
-literal v = typed (E.Literal v) (literal_type v)
+abbrev pub literal : WrittenLiteral → Typing Typed
+literal l = typed (E.Literal (literal_value l)) (literal_type (literal_value l))
 
 module _ (s : Scene) (type_of : Environment → Written → Typing Typed) where
   -- ---- operators, `if`, `let`, collection literals
@@ -274,7 +275,7 @@ module _ (s : Scene) (type_of : Environment → Written → Typing Typed) where
 
   unfoldable pub node : Environment → Layer → Typing Typed
   node env (Written-F.TooDeep place) = breaks_t 16 place
-  node env (Written-F.Literal place value) = literal value
+  node env (Written-F.Literal place l) = literal l
   node env (Written-F.OnlyLiteral place name) = only_literal_rule s.model name
   node env (Written-F.Named name literal is_before arguments) = named env name literal is_before arguments
   node env (Written-F.Collection place kind all) = collection env kind all

@@ -28,7 +28,7 @@ where
     {
         match written {
             Written::TooDeep(place) => Err(breaks_t(16, *place)),
-            Written::Literal(_, value) => Ok(literal(self.setting.alloc, value)?),
+            Written::Literal(_, said) => Ok(literal(self.setting.alloc, said)?),
             Written::OnlyLiteral(_, name) => only_literal_rule(self.setting.model, name),
             Written::Named(name, literal, is_before, arguments) => {
                 self.named(env, name, literal, *is_before, arguments)

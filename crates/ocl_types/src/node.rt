@@ -13,8 +13,8 @@ use ocl_rules::{
     TypeFault, Typed, TypedPart, binary_rule, collection_rule, if_rule, let_rule, unary_rule,
 };
 use ocl_scope::{Environment, declared_type, literal_type};
-use ocl_syntax::{Written, WrittenBinary, WrittenPart, WrittenUnary};
-use ocl_values::{Kind, Text, Value};
+use ocl_syntax::{Written, WrittenBinary, WrittenLiteral, WrittenPart, WrittenUnary};
+use ocl_values::{Kind, Text};
 use std::alloc::{AllocError, Global};
 use use_lists::Items;
 use use_text::Place;
@@ -27,12 +27,14 @@ pub(crate) struct Node<'a, F> {
 }
 
 /// A literal.
-pub(crate) fn literal(alloc: Global, value: &Value) -> Result<Typed, AllocError>
-    ensures { IfOk result (λ x. literal value.now ≡ Ok x) }
+pub(crate) fn literal(alloc: Global, said: &WrittenLiteral) -> Result<Typed, AllocError>
+    ensures { IfOk result (λ x. literal said.now ≡ Ok x) }
 {
+    let value = said.value(alloc)?;
+    let of_type = literal_type(&value);
     Ok(Typed {
-        expr: Expr::Literal(value.try_copy(alloc)?),
-        of_type: literal_type(value),
+        expr: Expr::Literal(value),
+        of_type,
     })
 }
 
