@@ -1,5 +1,5 @@
 -- Two evaluations that go alike in each step go alike as a whole: any relation that single steps keep is kept by every node.
-use Rattle.std.proofs.Common.{ℕ, zero, suc, Bool, true, false, ◌&&◌, not, cond, nat_lt, is_some, length, List, [], ◌∷◌, ◌++◌, Option, Some, None}
+use Rattle.std.proofs.Common.{ℕ, Bool, true, false, ◌&&◌, not, cond, nat_lt, is_some, length, List, [], ◌∷◌, ◌++◌, Option, Some, None}
 use Rattle.ocl_values.specs.Shape.{canon, size_of}
 use Rattle.ocl_values.specs.declared.value.Kind.{Kind}
 use Rattle.ocl_values.specs.declared.value.Kind.TheVariants.{Set}
@@ -33,8 +33,7 @@ use Rattle.ocl_operations.specs.Sources.{as_source}
 use Rattle.ocl_operations.specs.Types.{plain_tested, tested}
 use Rattle.ocl_eval.specs.declared.parts.Made.{Made}
 use Rattle.ocl_eval.specs.declared.walks.Visited.{Visited}
-use Rattle.ocl_eval.specs.Evaluation.{ev}
-use Rattle.ocl_eval.specs.Evaluations.{Evaluation, ◌>>=◌, ◌>>◌, exhausted, pay, pure, spend, walk}
+use Rattle.ocl_eval.specs.Evaluations.{Evaluation, ◌>>=◌, pay, pure, spend, walk}
 use Rattle.ocl_eval.specs.Nodes as N
 use Rattle.ocl_eval.specs.Scenes.{Scene, derived_body, look, query_called, scene_of, within}
 

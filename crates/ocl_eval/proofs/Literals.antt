@@ -1,7 +1,6 @@
 -- The literals of an expression are well made where those of its parts are.
-use Rattle.std.proofs.Common.{◌≡◌, ℕ, suc, List, All, Option, Some, None, subst, sym, ◌∙◌}
+use Rattle.std.proofs.Common.{◌≡◌, ℕ, suc, List, All, Option, Some, None, subst, sym}
 use Rattle.std.specs.Prelude.{MatchOption, ⊤}
-use Rattle.ocl_values.specs.declared.value.Value.{Value}
 use Rattle.ocl_values.specs.Shape.{IsWellMade}
 use Rattle.ocl_core.specs.declared.expression.Expr.{Expr, out-Expr}
 use Rattle.ocl_core.specs.declared.expression.Expr.TheOpen.{Expr-F, Part-F}

@@ -1,5 +1,5 @@
 -- An outcome depends on the cells of the present state that were read, and on no others.
-use Rattle.std.proofs.Common.{◌≡◌, ℕ, ◌-◌, zero, suc, Bool, true, false, ◌||◌, cond, nat_le, List, [], ◌∷◌, Option, Some, None, refl, sym, ap, ◌∙◌, true≢false, is_eq}
+use Rattle.std.proofs.Common.{◌≡◌, ℕ, ◌-◌, zero, suc, Bool, true, false, ◌||◌, cond, nat_le, List, [], ◌∷◌, Some, None, refl, sym, ap, ◌∙◌, true≢false, is_eq}
 use Rattle.std.specs.BTreeSet.{insert_key}
 use Rattle.std.proofs.lemmas.Cmp.{tied_itself}
 use Rattle.ocl_values.specs.declared.value.Value.{Value}

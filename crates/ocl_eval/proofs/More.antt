@@ -1,5 +1,5 @@
 -- What is done is done in the same way with more units, and with more levels.
-use Rattle.std.proofs.Common.{◌≡◌, ℕ, zero, suc, ◌+◌, ◌-◌, ◌<◌, ◌≤◌, Bool, true, false, cond, nat_le, nat_lt, List, Option, Some, None, refl, sym, ap, subst, true≢false, ◌∙◌, arith, ⊎_elim}
+use Rattle.std.proofs.Common.{◌≡◌, ℕ, zero, suc, ◌+◌, ◌-◌, ◌<◌, ◌≤◌, Bool, true, false, cond, nat_le, nat_lt, List, Some, None, refl, sym, ap, subst, true≢false, ◌∙◌, arith, ⊎_elim}
 use Rattle.std.proofs.lemmas.Bool.Decides.{leb_tells}
 use Rattle.ocl_values.specs.Shape.{sizes_of}
 use Rattle.ocl_values.specs.declared.value.Value.{Value}

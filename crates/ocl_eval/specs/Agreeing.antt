@@ -1,5 +1,5 @@
 -- When two evaluations come to the same.
-use Rattle.std.specs.Prelude.{◌≡◌, ℕ, ◌+◌, Bool, true, List}
+use Rattle.std.specs.Prelude.{◌≡◌, ℕ, ◌+◌, true, List}
 use Rattle.object_state.specs.Touched.{has_cell}
 use Rattle.object_state.specs.declared.cell.Cell.{Cell}
 use Rattle.object_state.specs.declared.cell.Look.{Look}

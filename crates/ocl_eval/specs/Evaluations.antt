@@ -1,5 +1,5 @@
 -- What is threaded through an evaluation: the units that are left, and the cells that were read.
-use Rattle.std.specs.Prelude.{◌≡◌, ℕ, ◌-◌, nat_le, Bool, if◌then◌else◌, List, [], ◌∷◌, ◌++◌, Option, Some, None, Result, Ok, Err}
+use Rattle.std.specs.Prelude.{◌≡◌, ℕ, ◌-◌, nat_le, Bool, if◌then◌else◌, List, [], ◌∷◌, Option, Some, None, Result, Ok, Err}
 use Rattle.std.specs.BTreeSet.{insert_key}
 use Rattle.ocl_values.specs.Shape.{size_of}
 use Rattle.ocl_values.specs.declared.value.Value.{Value}

@@ -1,5 +1,5 @@
 -- The rule of each kind of node, by what evaluates its parts.
-use Rattle.std.specs.Prelude.{ℕ, nat_eq, nat_lt, Bool, true, false, not, ◌&&◌, if◌then◌else◌, ◌+◌, List, [], ◌∷◌, ◌++◌, length, Option, Some, None, is_some, slice_get, unwrap_or}
+use Rattle.std.specs.Prelude.{ℕ, nat_lt, Bool, true, false, not, ◌&&◌, if◌then◌else◌, ◌+◌, List, [], ◌∷◌, ◌++◌, length, Option, Some, None, is_some, slice_get, unwrap_or}
 use Rattle.ocl_values.specs.Shape.{canon, sizes_of}
 use Rattle.ocl_values.specs.declared.value.Kind.{Kind}
 use Rattle.ocl_values.specs.declared.value.Kind.TheVariants.{Set}
@@ -11,7 +11,6 @@ use Rattle.ocl_collections.specs.declared.op.CollOp.{CollOp}
 use Rattle.class_model.specs.declared.numbers.End.{End}
 use Rattle.class_model.specs.declared.types.OclType.{OclType}
 use Rattle.class_model.specs.declared.types.OclType.TheVariants as T
-use Rattle.object_state.specs.declared.cell.Cell.{Cell}
 use Rattle.object_state.specs.declared.cell.Cell.TheVariants as cell
 use Rattle.object_state.specs.declared.cell.Look.{Look}
 use Rattle.object_state.specs.declared.cell.Look.TheVariants as L
@@ -33,7 +32,7 @@ use Rattle.ocl_operations.specs.Sources.{as_source}
 use Rattle.ocl_operations.specs.Types.{plain_tested, tested}
 use Rattle.ocl_eval.specs.declared.parts.Made.{Made}
 use Rattle.ocl_eval.specs.declared.walks.Visited.{Visited}
-use Rattle.ocl_eval.specs.Evaluations.{Evaluation, ◌>>=◌, ◌>>◌, pure, exhausted, spend, pay, walk}
+use Rattle.ocl_eval.specs.Evaluations.{Evaluation, ◌>>=◌, pure, exhausted, pay, walk}
 use Rattle.ocl_eval.specs.Scenes.{Scene, derived_body, look, query_called, within}
 use Rattle.ocl_core.specs.Trees.{Layer, PartLayer}
 

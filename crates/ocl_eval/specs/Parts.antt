@@ -1,5 +1,5 @@
 -- What the functions of the evaluator need of what evaluates the parts.
-use Rattle.std.specs.Prelude.{◌≡◌, ℕ, ◌+◌, List, IfOk, OnOk, Result}
+use Rattle.std.specs.Prelude.{◌≡◌, ℕ, ◌+◌, List, IfOk, Result}
 use denote.Ref.{Bor, MutBor}
 use Rattle.ocl_values.specs.Shape.{IsWellMade}
 use Rattle.ocl_values.specs.declared.value.Value.{Value}
@@ -31,7 +31,7 @@ module _ {V : Type 0} (now pre : V → Cell → Look) where
 pub record Comes (outcome : Evaluation Value) (old new : List Value) (m m' : Meter) (steps steps' : ℕ) (r : Result Value Stop) : Type 0 where
   pub value : Gives (outcome m) r m'
   pub well_made : IfOk r IsWellMade
-  pub locals : OnOk r (new ≡ old)
+  pub locals : new ≡ old
   pub ticks : steps' + m'.fuel ≡ steps + m.fuel
 
 -- a function that evaluates parts at a level

@@ -1,16 +1,15 @@
 -- What an evaluation sees: the program, the state now and the state at entry.
-use Rattle.std.specs.Prelude.{ℕ, nat_lt, ◌&&◌, if◌then◌else◌, List, Option, Some, None, length, slice_get}
+use Rattle.std.specs.Prelude.{ℕ, nat_lt, ◌&&◌, if◌then◌else◌, Option, None, length, slice_get}
 use Rattle.std.specs.Option.{option_and_then}
 use Rattle.object_state.specs.declared.cell.Cell.{Cell}
 use Rattle.object_state.specs.declared.cell.Look.{Look}
 use Rattle.class_model.specs.Features.{dispatch}
-use Rattle.class_model.specs.declared.object_model.ObjectModel.{ObjectModel}
 use Rattle.ocl_core.specs.declared.expression.Expr.{Expr}
 use Rattle.ocl_core.specs.declared.operators.When.{When}
 use Rattle.ocl_core.specs.declared.operators.When.TheVariants.{Now, Pre}
 use Rattle.ocl_core.specs.declared.program.ProgramParts.{ProgramParts}
 use Rattle.ocl_core.specs.Programs.{query_of}
-use Rattle.ocl_eval.specs.Evaluations.{Evaluation, ◌>>=◌, ◌>>◌, pure, spend, read}
+use Rattle.ocl_eval.specs.Evaluations.{Evaluation, ◌>>◌, pure, spend, read}
 
 pub record Scene : Type 0 where
   pub program : ProgramParts

@@ -1,30 +1,29 @@
-ghost use Rattle.std.specs.Prelude.{◌≡◌, All};
+ghost use Rattle.std.specs.Prelude.{◌≡◌, ◌∷◌, ◌++◌, ◌<◌, [], All, OnErr, OnOk, length, take, slice_set};
 ghost use Rattle.ocl_values.specs.Shape.{IsWellMade};
 
+use crate::Values;
 use ocl_values::Value;
+use std::alloc::{AllocError, Global};
 use std::marker::Model;
 use use_lists::Items;
 
 /// What is bound where an expression is evaluated, the outermost first. Contracts see the list of it.
 #[derive(Debug, Drop)]
 pub struct Env {
-    items: Items<Value>,
+    pub(crate) values: Values,
 }
 
 impl Model for Env {
     ghost use Rattle.std.specs.Coded.{codes};
-    ghost use Rattle.std.specs.Prelude.{All, List};
-    ghost use Rattle.ocl_values.specs.Shape.{IsWellMade};
-    ghost use Rattle.ocl_values.specs.contracts.value.Value as values;
+    ghost use Rattle.std.specs.Prelude.{List};
+    ghost use Rattle.ocl_values.specs.contracts.value.Value as value_contracts;
     ghost use Rattle.ocl_values.specs.declared.value.Value as declared;
 
     ghost Value = { List declared.Value };
 
-    ghost coded = { Prim.hlevel (codes, values.the_row.coded) };
+    ghost coded = { Prim.hlevel (codes, value_contracts.the_row.coded) };
 
-    ghost view = { λ v. v.items };
-
-    ghost invariant = { λ v. All IsWellMade v.items };
+    ghost view = { λ v. v.values };
 }
 
 impl Env {
@@ -32,13 +31,47 @@ impl Env {
         requires { All IsWellMade items }
         ensures { result ≡ items }
     {
-        Env { items }
+        Env {
+            values: Values::from_vec(items.into_vec()),
+        }
     }
 
     pub(crate) fn as_slice(&self) -> &[Value]
         ensures items { result.now ≡ self.now }
         ensures well_made { All IsWellMade result.now }
     {
-        self.items.as_slice()
+        self.values.as_slice()
+    }
+
+    /// How many values are bound.
+    pub fn len(&self) -> usize
+        ensures { result ≡ length self.now }
+    {
+        self.values.as_slice().len()
+    }
+
+    /// Binds one more value, innermost.
+    pub fn push(&mut self, value: Value) -> Result<(), AllocError>
+        requires { IsWellMade value }
+        ensures added { OnOk result (self.new ≡ self.old ++ value ∷ []) }
+        ensures refused { OnErr result (self.new ≡ self.old) }
+    {
+        self.values.push(value)
+    }
+
+    /// Binds another value at a place.
+    pub fn set(&mut self, at: usize, value: Value)
+        requires within { at < length self.old }
+        requires well_made { IsWellMade value }
+        ensures { self.new ≡ slice_set self.old at value }
+    {
+        self.values.set(at, value);
+    }
+
+    /// Unbinds all values from a place on.
+    pub fn truncate(&mut self, len: usize)
+        ensures { self.new ≡ take len self.old }
+    {
+        self.values.truncate(len);
     }
 }

@@ -71,7 +71,33 @@ pub fn evaluate<L: Ledger, W: World<L>, P: World<L>>(
     ensures units { OnOk result (steps.new + (eval_from (scene_of program.now (W.picture now.now) (P.picture pre.now)) env.now e.now reads.old).1.fuel
         ≡ steps.old + max_units) }
 {
-    let mut locals = copied(alloc, env.as_slice())?;
+    let values = copied(alloc, env.as_slice())?;
+    let mut env = Env { values };
+    evaluate_in(alloc, program, e, &mut env, now, pre, reads, steps)
+}
+
+/// Evaluates an expression as `evaluate` does, in an environment of which no copy is made.
+#[tactic(auto, unfolding(crate::specs::Evaluation::eval_from))]
+pub fn evaluate_in<L: Ledger, W: World<L>, P: World<L>>(
+    alloc: Global,
+    program: &ProgramParts,
+    e: &Expr,
+    env: &mut Env,
+    now: &W,
+    pre: &P,
+    reads: &mut Cells,
+    steps: &mut Steps<L>,
+) -> Result<Outcome, AllocError>
+    requires program { IsSoundProgram program.now }
+    requires tree { IsSound e.now }
+    ensures value { IfOk result (λ outcome. outcome
+        ≡ told (eval_from (scene_of program.now (W.picture now.now) (P.picture pre.now)) env.old e.now reads.old).0) }
+    ensures well_made { IfOk result IsWellMadeOutcome }
+    ensures reads { OnOk result (reads.new ≡ (eval_from (scene_of program.now (W.picture now.now) (P.picture pre.now)) env.old e.now reads.old).1.reads) }
+    ensures units { OnOk result (steps.new + (eval_from (scene_of program.now (W.picture now.now) (P.picture pre.now)) env.old e.now reads.old).1.fuel
+        ≡ steps.old + max_units) }
+    ensures env { env.new ≡ env.old }
+{
     let states = TwoWorlds { now, pre };
     let setting = Setting {
         alloc,
@@ -87,7 +113,7 @@ pub fn evaluate<L: Ledger, W: World<L>, P: World<L>>(
     let result = value_of::<Steps<L>, TwoWorlds<'_, W, P>>(
         &setting,
         e,
-        &mut locals,
+        &mut env.values,
         &mut meter,
         steps,
     );

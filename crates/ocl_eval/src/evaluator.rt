@@ -1,4 +1,4 @@
-ghost use Rattle.std.specs.Prelude.{◌≡◌, ◌+◌, IfOk, OnOk};
+ghost use Rattle.std.specs.Prelude.{◌≡◌, ◌+◌, IfOk};
 ghost use Rattle.ocl_values.specs.Shape.{IsWellMade};
 ghost use Rattle.ocl_eval.specs.Parts.{ev_in};
 ghost use Rattle.ocl_eval.specs.Evaluations.{Gives};
@@ -23,7 +23,7 @@ pub(crate) fn value_of<S, V: States<S>>(
     requires tree { IsSound e.now }
     ensures value { Gives (ev_in V.now V.pre setting.now locals.old e.now meter.old) result meter.new }
     ensures well_made { IfOk result IsWellMade }
-    ensures locals { OnOk result (locals.new ≡ locals.old) }
+    ensures locals { locals.new ≡ locals.old }
     ensures ticks { V.count steps.new + meter.new.fuel ≡ V.count steps.old + meter.old.fuel }
 {
     if setting.levels == 0 {

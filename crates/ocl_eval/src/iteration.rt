@@ -1,4 +1,4 @@
-ghost use Rattle.std.specs.Prelude.{◌≡◌, ◌+◌, ◌∷◌, [], length, map, true, false, All, IfOk, MatchOption, OnOk, ⊤};
+ghost use Rattle.std.specs.Prelude.{◌≡◌, ◌+◌, ◌∷◌, [], length, map, true, false, All, IfOk, MatchOption, ⊤};
 ghost use Rattle.std.specs.Option.{option_copied};
 ghost use Rattle.ocl_values.specs.Shape.{IsWellMade};
 ghost use Rattle.ocl_values.specs.declared.value.Value.TheVariants.{Coll};
@@ -40,13 +40,12 @@ where
         ensures value { Gives (visit (ev_in V.now V.pre self.now.setting) locals.old op body.now before (x.now ∷ []) meter.old) result meter.new }
         ensures one { IfOk result (λ seen. length seen.values ≡ length before.values + 1) }
         ensures goes { takes_all op ≡ true → IfOk result (λ seen. seen.ended ≡ false) }
-        ensures locals { OnOk result (locals.new ≡ locals.old) }
+        ensures locals { locals.new ≡ locals.old }
         ensures ticks { V.count steps.new + meter.new.fuel ≡ V.count steps.old + meter.old.fuel }
     {
         let mut seen = before;
-        locals.push(x.try_copy(self.setting.alloc)?)?;
-        let value = self.part(body, locals, meter, steps)?;
-        locals.pop();
+        let x = x.try_copy(self.setting.alloc)?;
+        let value = self.bound(x, body, locals, meter, steps)?;
         seen.ended = ends_walk(op, &value);
         seen.values.push(value)?;
         Ok(seen)
@@ -71,7 +70,7 @@ where
         ensures value { Gives (visits (ev_in V.now V.pre self.now.setting) locals.old op body.now before (map
             (λ x. x ∷ []) items.now) meter.old) result meter.new }
         ensures every { takes_all op ≡ true → before.ended ≡ false → IfOk result (λ seen. length seen.values ≡ length before.values + length items.now) }
-        ensures locals { OnOk result (locals.new ≡ locals.old) }
+        ensures locals { locals.new ≡ locals.old }
         ensures ticks { V.count steps.new + meter.new.fuel ≡ V.count steps.old + meter.old.fuel }
     {
         let mut seen = before;
@@ -105,13 +104,13 @@ where
         requires first { IsWellMade x.now }
         requires well { All IsWellMade items.now }
         ensures value { Gives (visits_with (ev_in V.now V.pre self.now.setting) locals.old op body.now items.now before x.now meter.old) result meter.new }
-        ensures locals { OnOk result (locals.new ≡ locals.old) }
+        ensures locals { locals.new ≡ locals.old }
         ensures ticks { V.count steps.new + meter.new.fuel ≡ V.count steps.old + meter.old.fuel }
     {
         locals.push(x.try_copy(self.setting.alloc)?)?;
-        let seen = self.visits(op, body, before, items, locals, meter, steps)?;
+        let seen = self.visits(op, body, before, items, locals, meter, steps);
         locals.pop();
-        Ok(seen)
+        seen
     }
 
     /// The values of the body for each pair of elements, of which the first is one of some.
@@ -134,7 +133,7 @@ where
         requires well { All IsWellMade items.now }
         ensures value { Gives (visits_pairs
             (ev_in V.now V.pre self.now.setting) locals.old op body.now items.now before firsts.now meter.old) result meter.new }
-        ensures locals { OnOk result (locals.new ≡ locals.old) }
+        ensures locals { locals.new ≡ locals.old }
         ensures ticks { V.count steps.new + meter.new.fuel ≡ V.count steps.old + meter.old.fuel }
     {
         let mut seen = before;
@@ -163,15 +162,13 @@ where
         requires well { IsWellMade x.now }
         ensures value { Gives (iterate_step (ev_in V.now V.pre self.now.setting) locals.old body.now acc x.now meter.old) result meter.new }
         ensures well_made { IfOk result IsWellMade }
-        ensures locals { OnOk result (locals.new ≡ locals.old) }
+        ensures locals { locals.new ≡ locals.old }
         ensures ticks { V.count steps.new + meter.new.fuel ≡ V.count steps.old + meter.old.fuel }
     {
         locals.push(x.try_copy(self.setting.alloc)?)?;
-        locals.push(acc)?;
-        let value = self.part(body, locals, meter, steps)?;
+        let value = self.bound(acc, body, locals, meter, steps);
         locals.pop();
-        locals.pop();
-        Ok(value)
+        value
     }
 
     #[tactic(auto, unfolding(crate::specs::Nodes::iterate))]
@@ -191,7 +188,7 @@ where
         requires well { All IsWellMade items.now }
         ensures value { Gives (iterate (ev_in V.now V.pre self.now.setting) locals.old body.now start items.now meter.old) result meter.new }
         ensures well_made { IfOk result IsWellMade }
-        ensures locals { OnOk result (locals.new ≡ locals.old) }
+        ensures locals { locals.new ≡ locals.old }
         ensures ticks { V.count steps.new + meter.new.fuel ≡ V.count steps.old + meter.old.fuel }
     {
         let mut acc = start;
@@ -216,7 +213,7 @@ where
         requires tree { MatchOption (option_copied start) ⊤ IsSound }
         ensures value { Gives (maybe (ev_in V.now V.pre self.now.setting) locals.old (option_copied start.entry) meter.old) result meter.new }
         ensures well_made { IfOk result (λ x. MatchOption x ⊤ IsWellMade) }
-        ensures locals { OnOk result (locals.new ≡ locals.old) }
+        ensures locals { locals.new ≡ locals.old }
         ensures ticks { V.count steps.new + meter.new.fuel ≡ V.count steps.old + meter.old.fuel }
     {
         match start {
@@ -246,7 +243,7 @@ where
         ensures value { Gives (visits (ev_in V.now V.pre self.now.setting) locals.old op body.now unvisited
             (bindings count items.now) meter.old) result meter.new }
         ensures every { takes_all op ≡ true → may_have op count ≡ true → IfOk result (λ seen. length seen.values ≡ length items.now) }
-        ensures locals { OnOk result (locals.new ≡ locals.old) }
+        ensures locals { locals.new ≡ locals.old }
         ensures ticks { V.count steps.new + meter.new.fuel ≡ V.count steps.old + meter.old.fuel }
     {
         let none = Visited {
@@ -280,7 +277,7 @@ where
         requires count { may_have op count ≡ true }
         ensures value { Gives (gathered (ev_in V.now V.pre self.now.setting) locals.old op count body.now kind items.items meter.old) result meter.new }
         ensures well_made { IfOk result IsWellMade }
-        ensures locals { OnOk result (locals.new ≡ locals.old) }
+        ensures locals { locals.new ≡ locals.old }
         ensures ticks { V.count steps.new + meter.new.fuel ≡ V.count steps.old + meter.old.fuel }
     {
         elements_are_well_made();
@@ -310,7 +307,7 @@ where
         requires well { IsWellMade (Coll kind items.items) }
         ensures value { Gives (over (ev_in V.now V.pre self.now.setting) locals.old op count first body.now kind items.items meter.old) result meter.new }
         ensures well_made { IfOk result IsWellMade }
-        ensures locals { OnOk result (locals.new ≡ locals.old) }
+        ensures locals { locals.new ≡ locals.old }
         ensures ticks { V.count steps.new + meter.new.fuel ≡ V.count steps.old + meter.old.fuel }
     {
         elements_are_well_made();
@@ -351,7 +348,7 @@ where
         requires well { IsWellMade source }
         ensures value { Gives (over_source (ev_in V.now V.pre self.now.setting) locals.old op count first body.now source meter.old) result meter.new }
         ensures well_made { IfOk result IsWellMade }
-        ensures locals { OnOk result (locals.new ≡ locals.old) }
+        ensures locals { locals.new ≡ locals.old }
         ensures ticks { V.count steps.new + meter.new.fuel ≡ V.count steps.old + meter.old.fuel }
     {
         match source {
@@ -392,7 +389,7 @@ where
         ensures value { Gives (iterator (ev_in V.now V.pre self.now.setting) locals.old op source.now count
             (option_copied start.entry) body.now meter.old) result meter.new }
         ensures well_made { IfOk result IsWellMade }
-        ensures locals { OnOk result (locals.new ≡ locals.old) }
+        ensures locals { locals.new ≡ locals.old }
         ensures ticks { V.count steps.new + meter.new.fuel ≡ V.count steps.old + meter.old.fuel }
     {
         let x = self.part(source, locals, meter, steps)?;

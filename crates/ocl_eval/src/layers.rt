@@ -1,4 +1,4 @@
-ghost use Rattle.std.specs.Prelude.{◌≡◌, ◌+◌, IfOk, OnOk};
+ghost use Rattle.std.specs.Prelude.{◌≡◌, ◌+◌, IfOk};
 ghost use Rattle.std.specs.Option.{option_copied};
 ghost use Rattle.ocl_values.specs.Shape.{IsWellMade};
 ghost use Rattle.ocl_eval.specs.Parts.{Evaluates, ev_at, scene};
@@ -45,7 +45,7 @@ where
         ensures value { Gives (node (scene V.now V.pre self.now.setting)
             (ev_at V.now V.pre self.now.setting) self.now.setting.at locals.old e.now meter.old) result meter.new }
         ensures well_made { IfOk result IsWellMade }
-        ensures locals { OnOk result (locals.new ≡ locals.old) }
+        ensures locals { locals.new ≡ locals.old }
         ensures ticks { V.count steps.new + meter.new.fuel ≡ V.count steps.old + meter.old.fuel }
     {
         let alloc = self.setting.alloc;

@@ -24,7 +24,7 @@ mod values;
 mod walks;
 
 pub use env::Env;
-pub use evaluation::evaluate;
+pub use evaluation::{evaluate, evaluate_in};
 pub use laws::{outcomes_depend_on_what_is_read, what_is_done_stays_done};
 use meter::Meter;
 pub use outcome::Outcome;

@@ -1,4 +1,4 @@
-ghost use Rattle.std.specs.Prelude.{◌≡◌, ◌+◌, All, IfOk, OnOk};
+ghost use Rattle.std.specs.Prelude.{◌≡◌, ◌+◌, All, IfOk};
 ghost use Rattle.ocl_values.specs.Shape.{IsWellMade};
 ghost use Rattle.ocl_eval.specs.Parts.{Evaluates, ev_in};
 ghost use Rattle.ocl_eval.specs.Evaluations.{Gives};
@@ -32,7 +32,7 @@ where
         requires program { IsSoundProgram self.now.setting.program.now }
         requires tree { IsSoundPart p.now }
         ensures value { Gives (add_part (ev_in V.now V.pre self.now.setting) locals.old before p.now meter.old) result meter.new }
-        ensures locals { OnOk result (locals.new ≡ locals.old) }
+        ensures locals { locals.new ≡ locals.old }
         ensures ticks { V.count steps.new + meter.new.fuel ≡ V.count steps.old + meter.old.fuel }
     {
         match p {
@@ -63,7 +63,7 @@ where
         requires program { IsSoundProgram self.now.setting.program.now }
         requires trees { All IsSoundPart all.now }
         ensures value { Gives (parts (ev_in V.now V.pre self.now.setting) locals.old before all.now meter.old) result meter.new }
-        ensures locals { OnOk result (locals.new ≡ locals.old) }
+        ensures locals { locals.new ≡ locals.old }
         ensures ticks { V.count steps.new + meter.new.fuel ≡ V.count steps.old + meter.old.fuel }
     {
         let mut made = before;
@@ -89,7 +89,7 @@ where
         requires trees { All IsSoundPart all.now }
         ensures value { Gives (make (ev_in V.now V.pre self.now.setting) locals.old kind all.now meter.old) result meter.new }
         ensures well_made { IfOk result IsWellMade }
-        ensures locals { OnOk result (locals.new ≡ locals.old) }
+        ensures locals { locals.new ≡ locals.old }
         ensures ticks { V.count steps.new + meter.new.fuel ≡ V.count steps.old + meter.old.fuel }
     {
         let made = self.parts(nothing_made(self.setting.alloc), all, locals, meter, steps)?;

@@ -1,4 +1,4 @@
-ghost use Rattle.std.specs.Prelude.{◌≡◌, ◌+◌, All, IfOk, MatchOption, OnOk, ⊤};
+ghost use Rattle.std.specs.Prelude.{◌≡◌, ◌+◌, ◌++◌, ◌∷◌, [], All, IfOk, MatchOption, ⊤};
 ghost use Rattle.ocl_values.specs.Shape.{IsWellMade};
 ghost use Rattle.ocl_eval.specs.Parts.{Evaluates, ev_in};
 ghost use Rattle.ocl_eval.specs.Evaluations.{Gives};
@@ -39,7 +39,7 @@ where
         requires tree { IsSound e.now }
         ensures value { Gives ((ev_in V.now V.pre self.now.setting) locals.old e.now meter.old) result meter.new }
         ensures well_made { IfOk result IsWellMade }
-        ensures locals { OnOk result (locals.new ≡ locals.old) }
+        ensures locals { locals.new ≡ locals.old }
         ensures ticks { V.count steps.new + meter.new.fuel ≡ V.count steps.old + meter.old.fuel }
     {
         (self.value)(&self.setting, e, locals, meter, steps)
@@ -59,7 +59,7 @@ where
         requires tree { IsSound a.now }
         ensures value { Gives (unary (ev_in V.now V.pre self.now.setting) locals.old op a.now meter.old) result meter.new }
         ensures well_made { IfOk result IsWellMade }
-        ensures locals { OnOk result (locals.new ≡ locals.old) }
+        ensures locals { locals.new ≡ locals.old }
         ensures ticks { V.count steps.new + meter.new.fuel ≡ V.count steps.old + meter.old.fuel }
     {
         let x = self.part(a, locals, meter, steps)?;
@@ -84,7 +84,7 @@ where
         requires known { MatchOption known ⊤ IsWellMade }
         ensures value { Gives (right (ev_in V.now V.pre self.now.setting) locals.old op x b.now known meter.old) result meter.new }
         ensures well_made { IfOk result IsWellMade }
-        ensures locals { OnOk result (locals.new ≡ locals.old) }
+        ensures locals { locals.new ≡ locals.old }
         ensures ticks { V.count steps.new + meter.new.fuel ≡ V.count steps.old + meter.old.fuel }
     {
         match known {
@@ -113,7 +113,7 @@ where
         requires second { IsSound b.now }
         ensures value { Gives (binary (ev_in V.now V.pre self.now.setting) locals.old op a.now b.now meter.old) result meter.new }
         ensures well_made { IfOk result IsWellMade }
-        ensures locals { OnOk result (locals.new ≡ locals.old) }
+        ensures locals { locals.new ≡ locals.old }
         ensures ticks { V.count steps.new + meter.new.fuel ≡ V.count steps.old + meter.old.fuel }
     {
         let x = self.part(a, locals, meter, steps)?;
@@ -137,7 +137,7 @@ where
         requires second { IsSound b.now }
         ensures value { Gives (branch (ev_in V.now V.pre self.now.setting) locals.old x a.now b.now meter.old) result meter.new }
         ensures well_made { IfOk result IsWellMade }
-        ensures locals { OnOk result (locals.new ≡ locals.old) }
+        ensures locals { locals.new ≡ locals.old }
         ensures ticks { V.count steps.new + meter.new.fuel ≡ V.count steps.old + meter.old.fuel }
     {
         match x {
@@ -160,7 +160,7 @@ where
         requires tree { IsSound a.now }
         ensures value { Gives (paid (ev_in V.now V.pre self.now.setting) locals.old a.now meter.old) result meter.new }
         ensures well_made { IfOk result IsWellMade }
-        ensures locals { OnOk result (locals.new ≡ locals.old) }
+        ensures locals { locals.new ≡ locals.old }
         ensures ticks { V.count steps.new + meter.new.fuel ≡ V.count steps.old + meter.old.fuel }
     {
         let x = self.part(a, locals, meter, steps)?;
@@ -184,11 +184,35 @@ where
         requires second { IsSound b.now }
         ensures value { Gives (choice (ev_in V.now V.pre self.now.setting) locals.old c.now a.now b.now meter.old) result meter.new }
         ensures well_made { IfOk result IsWellMade }
-        ensures locals { OnOk result (locals.new ≡ locals.old) }
+        ensures locals { locals.new ≡ locals.old }
         ensures ticks { V.count steps.new + meter.new.fuel ≡ V.count steps.old + meter.old.fuel }
     {
         let x = self.part(c, locals, meter, steps)?;
         self.branch(x, a, b, locals, meter, steps)
+    }
+
+    /// The value of a part with one more value bound, innermost.
+    pub(crate) fn bound(
+        &self,
+        x: Value,
+        e: &Expr,
+        locals: &mut Values,
+        meter: &mut Meter,
+        steps: &mut S,
+    ) -> Result<Value, Stop>
+        requires parts { Evaluates V.now V.pre V.count self.now.setting.levels (F.pre self.now.value) (F.post self.now.value) }
+        requires program { IsSoundProgram self.now.setting.program.now }
+        requires tree { IsSound e.now }
+        requires well { IsWellMade x }
+        ensures value { Gives ((ev_in V.now V.pre self.now.setting) (locals.old ++ x ∷ []) e.now meter.old) result meter.new }
+        ensures well_made { IfOk result IsWellMade }
+        ensures locals { locals.new ≡ locals.old }
+        ensures ticks { V.count steps.new + meter.new.fuel ≡ V.count steps.old + meter.old.fuel }
+    {
+        locals.push(x)?;
+        let value = self.part(e, locals, meter, steps);
+        locals.pop();
+        value
     }
 
     #[tactic(auto, unfolding(crate::specs::Nodes::bind))]
@@ -206,14 +230,12 @@ where
         requires second { IsSound b.now }
         ensures value { Gives (bind (ev_in V.now V.pre self.now.setting) locals.old a.now b.now meter.old) result meter.new }
         ensures well_made { IfOk result IsWellMade }
-        ensures locals { OnOk result (locals.new ≡ locals.old) }
+        ensures locals { locals.new ≡ locals.old }
         ensures ticks { V.count steps.new + meter.new.fuel ≡ V.count steps.old + meter.old.fuel }
     {
         let x = self.part(a, locals, meter, steps)?;
-        locals.push(x)?;
-        let y = self.paid(b, locals, meter, steps)?;
-        locals.pop();
-        Ok(y)
+        let y = self.bound(x, b, locals, meter, steps)?;
+        pay(self.setting.states, y, meter, steps)
     }
 
     /// The values of several parts, after those that are there.
@@ -230,7 +252,7 @@ where
         requires program { IsSoundProgram self.now.setting.program.now }
         requires trees { All IsSound all.now }
         ensures value { Gives (values (ev_in V.now V.pre self.now.setting) locals.old done all.now meter.old) result meter.new }
-        ensures locals { OnOk result (locals.new ≡ locals.old) }
+        ensures locals { locals.new ≡ locals.old }
         ensures ticks { V.count steps.new + meter.new.fuel ≡ V.count steps.old + meter.old.fuel }
     {
         let mut done = done;
@@ -257,7 +279,7 @@ where
         requires trees { All IsSound all.now }
         ensures value { Gives (plain (ev_in V.now V.pre self.now.setting) locals.old op all.now meter.old) result meter.new }
         ensures well_made { IfOk result IsWellMade }
-        ensures locals { OnOk result (locals.new ≡ locals.old) }
+        ensures locals { locals.new ≡ locals.old }
         ensures ticks { V.count steps.new + meter.new.fuel ≡ V.count steps.old + meter.old.fuel }
     {
         match all {
@@ -285,7 +307,7 @@ where
         requires trees { All IsSound all.now }
         ensures value { Gives (collection (ev_in V.now V.pre self.now.setting) locals.old op all.now meter.old) result meter.new }
         ensures well_made { IfOk result IsWellMade }
-        ensures locals { OnOk result (locals.new ≡ locals.old) }
+        ensures locals { locals.new ≡ locals.old }
         ensures ticks { V.count steps.new + meter.new.fuel ≡ V.count steps.old + meter.old.fuel }
     {
         match all {
@@ -313,7 +335,7 @@ where
         requires tree { IsSound a.now }
         ensures value { Gives (to_set (ev_in V.now V.pre self.now.setting) locals.old a.now meter.old) result meter.new }
         ensures well_made { IfOk result IsWellMade }
-        ensures locals { OnOk result (locals.new ≡ locals.old) }
+        ensures locals { locals.new ≡ locals.old }
         ensures ticks { V.count steps.new + meter.new.fuel ≡ V.count steps.old + meter.old.fuel }
     {
         let x = self.part(a, locals, meter, steps)?;

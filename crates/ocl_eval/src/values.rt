@@ -1,4 +1,4 @@
-ghost use Rattle.std.specs.Prelude.{◌≡◌, [], ◌∷◌, ◌++◌, All, IfOk, OnOk, MatchOption, length, slice_get, unwrap_or};
+ghost use Rattle.std.specs.Prelude.{◌≡◌, [], ◌∷◌, ◌++◌, All, IfOk, OnErr, OnOk, MatchOption, ◌<◌, length, slice_get, slice_set, take, unwrap_or};
 ghost use Rattle.ocl_values.specs.Shape.{IsWellMade};
 ghost use Rattle.ocl_values.specs.declared.value.Value.TheVariants.{Invalid};
 
@@ -55,7 +55,8 @@ impl Values {
 
     pub(crate) fn push(&mut self, value: Value) -> Result<(), AllocError>
         requires { IsWellMade value }
-        ensures { OnOk result (self.new ≡ self.old ++ value ∷ []) }
+        ensures added { OnOk result (self.new ≡ self.old ++ value ∷ []) }
+        ensures refused { OnErr result (self.new ≡ self.old) }
     {
         self.items.push(value)?;
         Ok(())
@@ -65,6 +66,20 @@ impl Values {
         ensures { MatchOption result ((self.old ≡ []) × (self.new ≡ [])) (λ last. self.old ≡ self.new ++ last ∷ []) }
     {
         self.items.pop()
+    }
+
+    pub(crate) fn set(&mut self, at: usize, value: Value)
+        requires within { at < length self.old }
+        requires well_made { IsWellMade value }
+        ensures { self.new ≡ slice_set self.old at value }
+    {
+        self.items[at] = value;
+    }
+
+    pub(crate) fn truncate(&mut self, len: usize)
+        ensures { self.new ≡ take len self.old }
+    {
+        self.items.truncate(len);
     }
 
     pub(crate) fn as_slice(&self) -> &[Value]

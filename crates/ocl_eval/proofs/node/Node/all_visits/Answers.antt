@@ -1,4 +1,4 @@
-use Rattle.std.proofs.Common.{◌≡◌, subst, sym, arith, List, false}
+use Rattle.std.proofs.Common.{subst, sym, arith, List, false}
 use Rattle.ocl_values.specs.declared.value.Value.{Value}
 use Rattle.ocl_eval.specs.Walks.{visits_pairs}
 use Rattle.ocl_eval.specs.Evaluations.{Gives}

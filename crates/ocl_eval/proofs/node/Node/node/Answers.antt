@@ -1,9 +1,9 @@
-use Rattle.std.proofs.Common.{◌≡◌, All, subst, sym, rules}
+use Rattle.std.proofs.Common.{All, subst, sym, rules}
 use Rattle.std.specs.Prelude.{MatchOption, ⊤}
 use Rattle.ocl_core.specs.declared.expression.Expr.{the_lemmas}
 use Rattle.ocl_core.specs.declared.expression.Expr.TheOpen.{Expr-F}
 use Rattle.ocl_values.specs.Shape.{IsWellMade}
-use Rattle.ocl_core.specs.Trees.{IsSound, IsSoundPart}
+use Rattle.ocl_core.specs.Trees.{IsSound}
 use Rattle.ocl_eval.proofs.Literals.{parts_sound, sound_as, start_sound}
 use Rattle.ocl_eval.proofs.node.Node.node.Goals as goal
 

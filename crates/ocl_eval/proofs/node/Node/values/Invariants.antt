@@ -1,8 +1,7 @@
-use Rattle.std.proofs.Common.{◌≡◌, ◌+◌, ◌∷◌, [], All, length, map}
-use Rattle.ocl_values.specs.Shape.{IsWellMade}
+use Rattle.std.proofs.Common.{◌≡◌, ◌+◌, All, length}
 use Rattle.ocl_eval.specs.Nodes.{values}
 use Rattle.ocl_eval.specs.Parts.{ev_in}
-use Rattle.ocl_core.specs.Trees.{IsSound, IsSoundPart}
+use Rattle.ocl_core.specs.Trees.{IsSound}
 use Rattle.ocl_eval.proofs.node.Node.values.Given as goal
 
 abbrev pub invariant-parts : goal.invariant-parts

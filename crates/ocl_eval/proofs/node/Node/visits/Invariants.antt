@@ -3,7 +3,6 @@ use Rattle.ocl_operations.specs.Iterators.{takes_all}
 use Rattle.ocl_values.specs.Shape.{IsWellMade}
 use Rattle.ocl_eval.specs.Nodes.{visits}
 use Rattle.ocl_eval.specs.Parts.{ev_in}
-use Rattle.ocl_core.specs.Trees.{IsSound, IsSoundPart}
 use Rattle.ocl_eval.proofs.node.Node.visits.Given as goal
 
 abbrev pub invariant-elements : goal.invariant-elements

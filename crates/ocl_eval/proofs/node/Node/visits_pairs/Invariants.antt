@@ -1,8 +1,7 @@
-use Rattle.std.proofs.Common.{◌≡◌, ◌+◌, ◌∷◌, [], All, length, map}
+use Rattle.std.proofs.Common.{◌≡◌, ◌+◌, All, length}
 use Rattle.ocl_values.specs.Shape.{IsWellMade}
 use Rattle.ocl_eval.specs.Walks.{visits_pairs}
 use Rattle.ocl_eval.specs.Parts.{ev_in}
-use Rattle.ocl_core.specs.Trees.{IsSound, IsSoundPart}
 use Rattle.ocl_eval.proofs.node.Node.visits_pairs.Given as goal
 
 abbrev pub invariant-firsts : goal.invariant-firsts
