@@ -275,19 +275,19 @@ get_other (x ∷ xs) zero (suc j) w h = refl
 get_other (x ∷ xs) (suc i) zero w h = refl
 get_other (x ∷ xs) (suc i) (suc j) w h = get_other xs i j w (λ e. h (ap suc e))
 
-slot_other : (p q : Option ℕ) (x : Object) (w : Value) → ((i : ℕ) → p ≡ Some i → q ≡ Some i → ⊥)
+pub slot_other : (p q : Option ℕ) (x : Object) (w : Value) → ((i : ℕ) → p ≡ Some i → q ≡ Some i → ⊥)
     → option_and_then (slice_get (set_at p x w).slots) q ≡ option_and_then (slice_get x.slots) q
 slot_other None q x w h = refl
 slot_other (Some i) None x w h = refl
 slot_other (Some i) (Some j) x w h = get_other x.slots i j w (λ e. h i refl (ap (λ (z : ℕ). Some z) (sym e)))
 
-one_place : (l : Layout) (c a b i : ℕ) → place l c a ≡ Some i → place l c b ≡ Some i → a ≡ b
+pub one_place : (l : Layout) (c a b i : ℕ) → place l c a ≡ Some i → place l c b ≡ Some i → a ≡ b
 one_place l c a b i e e' =
     let r = position-Some (nat_eq a) (attrs l c) i 0 e in
     let r' = position-Some (nat_eq b) (attrs l c) i 0 e' in
     eqb-true a _ r.1 ∙ sym (eqb-true b _ r'.1)
 
-slot_now : (p q : Option ℕ) (x : Object) (old new : Value) → option_and_then (slice_get x.slots) p ≡ Some old → q ≡ p
+pub slot_now : (p q : Option ℕ) (x : Object) (old new : Value) → option_and_then (slice_get x.slots) p ≡ Some old → q ≡ p
     → option_and_then (slice_get (set_at p x new).slots) q ≡ Some new
 slot_now None q x old new h e = absurd (some≢none old (sym h))
 slot_now (Some i) q x old new h e = ap (λ (u : Option ℕ). option_and_then (slice_get (slice_set x.slots i new)) u) e ∙ get_set x.slots i old new h

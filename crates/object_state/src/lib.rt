@@ -39,6 +39,3 @@ pub use world::World;
 
 /// The association and the stamp of a link.
 type LinkKey = (class_model::AssocNo, u32);
-
-#[cfg(test)]
-mod tests;

@@ -260,6 +260,36 @@ module _ (near far : ℕ × ℕ → ℕ) (pack : ℕ → ℕ → ℕ × ℕ) (ne
       ∙ sym (seconds_of h (λ (e : (ℕ × ℕ) × (ℕ × ℕ)). e.0.1) (λ e. far e.1) (filter (λ e. nat_eq e.0.0 a && nat_eq (near e.1) o) links))
       ∙ map_twice h (λ (e : (ℕ × ℕ) × (ℕ × ℕ)). far e.1) (filter (λ e. nat_eq e.0.0 a && nat_eq (near e.1) o) links)
 
+  -- the links themselves, from what the index tells of them
+  abbrev pub stands_at : (ℕ × ℕ) × (ℕ × ℕ) → Bool
+  stands_at e = nat_eq e.0.0 a && nat_eq (near e.1) o
+
+  rebuilt : (es : List ((ℕ × ℕ) × (ℕ × ℕ))) → map (λ (e : (ℕ × ℕ) × (ℕ × ℕ)). ((a, e.0.1), pack o (far e.1))) (filter stands_at es) ≡ filter stands_at es
+  rebuilt [] = refl
+  rebuilt (e ∷ es) = by (nat_eq e.0.0 a) (nat_eq (near e.1) o) refl refl (rebuilt es)
+    where
+      by : (b c : Bool) → nat_eq e.0.0 a ≡ b → nat_eq (near e.1) o ≡ c
+          → map (λ (e : (ℕ × ℕ) × (ℕ × ℕ)). ((a, e.0.1), pack o (far e.1))) (filter stands_at es) ≡ filter stands_at es
+          → map (λ (e : (ℕ × ℕ) × (ℕ × ℕ)). ((a, e.0.1), pack o (far e.1))) (filter stands_at (e ∷ es)) ≡ filter stands_at (e ∷ es)
+      by true true x y rest =
+          let here : ((a, e.0.1), pack o (far e.1)) ≡ e =
+          λ i. ((sym (eqb-true e.0.0 a x) i, e.0.1), (ap (λ z. pack z (far e.1)) (sym (eqb-true (near e.1) o y)) ∙ packs e.1) i) in
+          rw (x, y) (λ i. here i ∷ rest i)
+      by true false x y rest = rw (x, y) rest
+      by false c x y rest = rw x rest
+
+  pub links_in_range : map (λ (e : ((ℕ × ℕ) × ℕ) × ℕ). ((a, e.0.1), pack o e.1)) (entries_between end_cmp (Included ((a, o), 0)) (Included
+      ((a, o), 2 ^ 32 - 1)) index)
+      ≡ filter stands_at links
+  links_in_range =
+      ap (λ (l : List (((ℕ × ℕ) × ℕ) × ℕ)). map (λ (e : ((ℕ × ℕ) × ℕ) × ℕ). ((a, e.0.1), pack o e.1)) l)
+      (same_filter end_total end_exact _ (λ e. is_eq (link_cmp (a, o) e.0.0) && true) index index_up (λ k v e.
+      in_range (link_cmp (a, o) k.0) k.1 (2 ^ 32 - 1) (last k.1 (within 0 k v e)) ∙ and_true (is_eq (link_cmp (a, o) k.0))))
+      ∙ map_twice (λ (e : ℕ × ℕ). ((a, e.0), pack o e.1)) (λ (e : ((ℕ × ℕ) × ℕ) × ℕ). (e.0.1, e.1)) (filter (λ e. is_eq (link_cmp (a, o) e.0.0) && true) index)
+      ∙ ap (λ (l : List (ℕ × ℕ)). map (λ (e : ℕ × ℕ). ((a, e.0), pack o e.1)) l) same_ends
+      ∙ sym (map_twice (λ (e : ℕ × ℕ). ((a, e.0), pack o e.1)) (λ (e : (ℕ × ℕ) × (ℕ × ℕ)). (e.0.1, far e.1)) (filter (λ e. nat_eq e.0.0 a && nat_eq (near e.1) o) links))
+      ∙ rebuilt links
+
 -- the links of an association
 module _ (links : List ((ℕ × ℕ) × (ℕ × ℕ))) (up : IsStrictlySortedBy link_cmp (keys_of links))
     (small : (k pair : ℕ × ℕ) → lookup (is_at (link_cmp k)) links ≡ Some pair → k.1 < 2 ^ 32) (a : ℕ) where

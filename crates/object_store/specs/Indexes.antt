@@ -9,6 +9,7 @@ use Rattle.std.specs.Map.{keys_of, lookup}
 use Rattle.std.specs.Option.{option_map, option_map_or}
 use Rattle.std.specs.Ordering.{nat_cmp, ordering_then}
 use Rattle.class_model.specs.declared.numbers.End.{End}
+use Rattle.class_model.specs.declared.numbers.End.TheVariants.{First, Second}
 use Rattle.class_model.specs.Ends.{opposite}
 use Rattle.object_state.specs.declared.layout.Layout.{Layout}
 use Rattle.object_state.specs.declared.objects.Object.{Object}
@@ -47,6 +48,11 @@ pub record LinksAreTied (links : List ((ℕ × ℕ) × (ℕ × ℕ))) (stamps : 
   pub stamps_tied : Indexes link_cmp pair_cmp by_pair links stamps
   pub seconds_tied : Indexes link_cmp end_cmp by_first links seconds
   pub firsts_tied : Indexes link_cmp end_cmp by_second links firsts
+
+-- the pair with an object at an end, and another at the opposite one
+abbrev pub pair_at : End → ℕ → ℕ → ℕ × ℕ
+pair_at First o p = (o, p)
+pair_at Second o p = (p, o)
 
 -- the stamp of a pair that an association links, and the objects at an end of an object
 abbrev pub stamp_in : List ((ℕ × ℕ) × (ℕ × ℕ)) → ℕ → ℕ → ℕ → Option ℕ

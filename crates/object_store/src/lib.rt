@@ -20,6 +20,3 @@ type PairKey = (class_model::AssocNo, (ocl_values::ObjNo, ocl_values::ObjNo));
 
 /// An association, an object at one end of it, and a stamp.
 type EndKey = ((class_model::AssocNo, ocl_values::ObjNo), u32);
-
-#[cfg(test)]
-mod tests;

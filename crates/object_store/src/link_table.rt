@@ -1,11 +1,12 @@
-ghost use Rattle.std.specs.Prelude.{◌≡◌, ◌<◌, ◌-◌, ◌^◌, [], IfOk, OnOk, OnErr, None, Some, length, map};
+ghost use Rattle.std.specs.Prelude.{◌≡◌, ◌<◌, ◌-◌, ◌^◌, [], IfOk, OnOk, OnErr, None, Some, filter, length, map};
 ghost use Rattle.std.specs.BTreeMap.{insert_entry, is_at};
 ghost use Rattle.std.specs.BTreeMap.Range.{entries_between};
 ghost use Rattle.std.specs.Map.{lookup, remove_entry};
 ghost use Rattle.ocl_values.specs.declared.value.Value.TheVariants.{Obj};
+ghost use Rattle.object_state.specs.Looks.{has_at};
 ghost use Rattle.object_state.specs.State.{link_cmp};
 ghost use Rattle.std.specs.declared.ops.Bound.TheVariants.{Included};
-ghost use Rattle.object_store.specs.Indexes.{end_cmp, joined_in, pair_cmp, pairs_in, stamp_in};
+ghost use Rattle.object_store.specs.Indexes.{end_cmp, joined_in, pair_at, pair_cmp, pairs_in, stamp_in};
 
 use crate::entries::{put, take};
 use crate::{EndKey, LinkKey, PairKey};
@@ -133,6 +134,34 @@ fn objects_at(
         .collect(alloc)
 }
 
+/// The links that an index of ends has at an association and an object, by stamps: of each its key, and
+/// the objects that it joins.
+fn links_at(
+    alloc: Global,
+    index: &BTreeMap<EndKey, ObjNo>,
+    assoc: AssocNo,
+    end: End,
+    object: ObjNo,
+) -> Result<Vec<(LinkKey, (ObjNo, ObjNo))>, AllocError>
+    ensures { IfOk result (λ v. v.items ≡ map (λ e. ((assoc, e.0.1), pair_at end object e.1)) (entries_between end_cmp (Included ((assoc, object), 0)) (Included ((assoc, object), 2 ^ 32 - 1))
+        index.now.entries)) }
+{
+    index
+        .range(((assoc, object), 0)..=((assoc, object), u32::MAX))
+        .map(|(key, found)| ((assoc, key.1), pair_at(end, object, *found)))
+        .collect(alloc)
+}
+
+/// The pair with an object at an end, and another at the opposite one.
+fn pair_at(end: End, object: ObjNo, other: ObjNo) -> (ObjNo, ObjNo)
+    ensures { result ≡ pair_at end object other }
+{
+    match end {
+        End::First => (object, other),
+        End::Second => (other, object),
+    }
+}
+
 /// The pairs of the links of an association, by stamps.
 fn pairs_of(
     alloc: Global,
@@ -185,6 +214,22 @@ impl LinkTable {
         match end {
             End::First => objects_at(alloc, &self.firsts, assoc, object),
             End::Second => objects_at(alloc, &self.seconds, assoc, object),
+        }
+    }
+
+    /// The links of an association that have an object at an end, by stamps.
+    pub(crate) fn at(
+        &self,
+        alloc: Global,
+        assoc: AssocNo,
+        end: End,
+        object: ObjNo,
+    ) -> Result<Vec<(LinkKey, (ObjNo, ObjNo))>, AllocError>
+        ensures { IfOk result (λ v. v.items ≡ filter (has_at assoc end object) self.now) }
+    {
+        match end {
+            End::First => links_at(alloc, &self.seconds, assoc, End::First, object),
+            End::Second => links_at(alloc, &self.firsts, assoc, End::Second, object),
         }
     }
 

@@ -1,11 +1,14 @@
-ghost use Rattle.std.specs.Prelude.{◌≡◌};
+ghost use Rattle.std.specs.Prelude.{◌≡◌, IfOk, filter};
+ghost use Rattle.object_state.specs.Looks.{has_at};
 ghost use Rattle.object_state.specs.State.{empty};
 
 use crate::link_table::LinkTable;
 use crate::object_table::ObjectTable;
 use crate::text_map::TextMap;
+use class_model::{AssocNo, End};
 use object_state::{Layout, Variable};
-use std::alloc::Global;
+use ocl_values::ObjNo;
+use std::alloc::{AllocError, Global};
 use std::marker::Model;
 
 /// A state with indexes. A change costs the logarithm of what there is, and its own values.
@@ -56,5 +59,19 @@ impl Store {
             next_stamp: 1,
             weight: 0,
         }
+    }
+
+    /// The links of an association that have an object at an end, by stamps: of each its association and
+    /// stamp, and the objects that it joins.
+    pub fn links_at(
+        &self,
+        alloc: Global,
+        assoc: AssocNo,
+        end: End,
+        object: ObjNo,
+    ) -> Result<Vec<((AssocNo, u32), (ObjNo, ObjNo))>, AllocError>
+        ensures { IfOk result (λ v. v.items ≡ filter (has_at assoc end object) self.now.state.links) }
+    {
+        self.links.at(alloc, assoc, end, object)
     }
 }

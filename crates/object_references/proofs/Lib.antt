@@ -1,0 +1,4 @@
+pub mod Listed
+pub mod Sizes
+pub mod Smaller
+pub mod Well

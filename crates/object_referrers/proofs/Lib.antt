@@ -1,0 +1,10 @@
+pub mod Told
+pub mod Keyed
+pub mod Slots
+pub mod Placed
+pub mod Carried
+pub mod Ranged
+pub mod Referred
+pub mod Names
+pub mod Attributes
+pub mod Linked

@@ -1,0 +1,11 @@
+use Rattle.std.proofs.Common.{◌≡◌, ◌++◌}
+use Rattle.std.specs.Vec.Iter.{into_iter_items}
+use Rattle.object_referrers.specs.Places.{TellsMore}
+use Rattle.object_referrers.proofs.referrers.put_all.Given as goal
+
+abbrev pub invariant-keys : goal.invariant-keys
+invariant-keys g l = record {
+  whole : l.fn.keys.items ≡ l.yielded ++ into_iter_items l.key-iterator;
+  stay : TellsMore g.K.Ord.cmp l.fn.index.keys l.index.keys;
+  put : TellsMore g.K.Ord.cmp l.yielded l.index.keys;
+}

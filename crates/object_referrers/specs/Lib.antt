@@ -1,0 +1,4 @@
+pub mod Referring
+pub mod Places
+pub mod Kept
+pub mod Gathered

@@ -1,5 +1,0 @@
-use Rattle.std.proofs.Common.{◌≡◌}
-use Rattle.object_store.proofs.tests.walks.walk.Given as goal
-
-abbrev pub invariant-steps : goal.invariant-steps
-invariant-steps l = l.plain ≡ l.store
