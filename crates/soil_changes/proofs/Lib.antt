@@ -1,0 +1,4 @@
+pub mod Back
+pub mod Agreeing
+pub mod Made
+pub mod Left

@@ -1,0 +1,3 @@
+pub mod Firsts
+pub mod Stepwise
+pub mod Slots
