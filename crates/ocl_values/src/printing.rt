@@ -24,8 +24,8 @@ pub trait Names {
         ensures { option_map (λ names. (names.0.now, names.1.now)) result ≡ literal_name self.now enumeration literal };
 }
 
-// The name of a kind of collections.
-fn kind_name(kind: Kind) -> &'static str
+/// The name of a kind of collections (OCL 2.3.1, clause 8.2).
+pub fn kind_name(kind: Kind) -> &'static str
     ensures { result.now ≡ kind_name kind }
 {
     match kind {
