@@ -8,6 +8,3 @@ mod multiplicities;
 mod type_names;
 
 pub use construction::build;
-
-#[cfg(test)]
-mod tests;

@@ -22,6 +22,3 @@ pub use names::{
     head_in, name_declared_twice, op_text, operation_declared_twice, parent_named_twice,
 };
 pub use references::unknown_type;
-
-#[cfg(test)]
-mod tests;

@@ -26,6 +26,3 @@ pub use object_model::{
 };
 pub use ocl_values::{EnumNo, Kind, LitNo};
 pub use types::OclType;
-
-#[cfg(test)]
-mod tests;

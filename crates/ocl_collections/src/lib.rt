@@ -23,6 +23,3 @@ pub use operations::apply;
 pub use owned::apply_owned;
 pub use selection::{copy_selected, select};
 pub use sorting::sort_by_keys;
-
-#[cfg(test)]
-mod tests;

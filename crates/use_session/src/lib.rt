@@ -8,6 +8,3 @@ mod session;
 mod sum;
 
 pub use session::{Session, SessionFault, Turn};
-
-#[cfg(test)]
-mod tests;

@@ -35,6 +35,3 @@ pub type Bytes = Items<u8>;
 
 /// The tokens of a text; the last one is `End`.
 pub type Tokens = Items<Token>;
-
-#[cfg(test)]
-mod tests;

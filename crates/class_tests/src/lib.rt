@@ -1,0 +1,11 @@
+//! Tests of declarations, of the rules of a well-formed model, and of object models.
+#![tactic(auto)]
+
+#[cfg(test)]
+mod builder;
+#[cfg(test)]
+mod decls;
+#[cfg(test)]
+mod model;
+#[cfg(test)]
+mod rules;

@@ -1,6 +1,0 @@
-use Rattle.std.proofs.Common.{All}
-use Rattle.ocl_values.specs.Shape.{IsWellMade}
-use Rattle.ocl_collections.proofs.tests.integers.Given as goal
-
-abbrev pub invariant-each : goal.invariant-each
-invariant-each l = All IsWellMade l.values.items

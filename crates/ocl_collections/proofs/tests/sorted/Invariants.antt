@@ -1,9 +1,0 @@
-use Rattle.std.proofs.Common.{◌≡◌, All, length}
-use Rattle.ocl_values.specs.Shape.{IsWellMade}
-use Rattle.ocl_collections.proofs.tests.sorted.Given as goal
-
-abbrev pub invariant-each : goal.invariant-each
-invariant-each l = record {
-  well : All IsWellMade l.items.items;
-  beside : length l.items.items ≡ length l.keys.items;
-}

@@ -1,0 +1,122 @@
+ghost use Rattle.std.specs.Prelude.{◌≡◌, ◌<◌, ◌≤◌, IfOk, length};
+ghost use Rattle.use_text.specs.Limits.{max_command};
+ghost use Rattle.use_syntax.specs.Language.{language};
+
+use grammar_core::Grammar;
+use std::alloc::Global;
+use std::marker::Brand;
+use std::sync::ledger::{Blank, Ledger};
+use std::test::Fail;
+use use_session::*;
+use use_steps::Steps;
+use use_syntax::grammar;
+use use_text::{Bytes, Code, Cut, Fate};
+
+fn language(alloc: Global) -> Result<Grammar, Fail>
+    ensures { IfOk result (λ g. g ≡ language) }
+{
+    Ok(grammar(alloc)?)
+}
+
+// What a new session writes for a command whose first line is 7, and how the command ends.
+fn answered<L: Ledger>(
+    alloc: Global,
+    text: &[u8],
+    fate: Fate,
+    blank: Blank,
+) -> Result<(Vec<u8>, Turn), Fail>
+    requires name { blank.name ≡ L.name }
+    requires parts { blank.parts ≡ L.parts }
+    requires some { 0 < blank.parts }
+    requires short { length text.now ≤ max_command }
+{
+    let mut steps = Steps::<L>::new(blank);
+    let mut session = Session::new(alloc, language(alloc)?);
+    let cut = Cut {
+        text: Bytes::from_slice(alloc, text)?,
+        first_line: 7,
+        fate,
+    };
+    let mut out = Vec::new(alloc);
+    let turn = session.command(&cut, &mut out, &mut steps)?;
+    Ok((out, turn))
+}
+
+const ANSWERS: [(&str, &str); 14] = [
+    ("? 1", "-> 1 : Integer\n"),
+    ("? 1 + 2", "-> 3 : Integer\n"),
+    (" ?1+2 +3 -- three numbers\r", "-> 6 : Integer\n"),
+    (
+        "? 170141183460469231731687303715884105727 + 1",
+        "-> invalid : Integer\n",
+    ),
+    ("-- a comment", ""),
+    ("", ""),
+    (
+        "? 170141183460469231731687303715884105728",
+        "refused L3 at 7:3: number past the range\n",
+    ),
+    ("? 1 * 2", "refused S0 at 7:1: form is not built yet\n"),
+    ("  ? 1 +", "refused S1 at 7:8: unexpected token\n"),
+    ("? 1 2", "refused S1 at 7:5: unexpected token\n"),
+    ("\n check", "refused S0 at 8:2: form is not built yet\n"),
+    (
+        "? 'x",
+        "refused L4 at 7:3: string or comment is not closed\n",
+    ),
+    (
+        "\n open 'a.cmd",
+        "refused S0 at 8:2: form is not built yet\n",
+    ),
+    (
+        "opened 'a.cmd",
+        "refused L4 at 7:8: string or comment is not closed\n",
+    ),
+];
+
+#[test]
+fn commands_are_answered(rt: HostRuntime) -> Result<(), Fail> {
+    for (text, answer) in ANSWERS {
+        let bytes = text.as_bytes();
+        if bytes.len() > 65536 {
+            continue;
+        }
+        let (out, _) = answered::<Brand>(rt.alloc(), bytes, Fate::Whole, Blank::new(1))?;
+        assert_eq!(rt; out.as_slice(), answer.as_bytes());
+    }
+    Ok(())
+}
+
+#[test]
+fn a_command_that_was_not_cut_out_whole_is_refused(rt: HostRuntime) -> Result<(), Fail> {
+    let (out, turn) = answered::<Brand>(rt.alloc(), b"", Fate::TooLong, Blank::new(1))?;
+    assert_eq!(rt;
+        out.as_slice(),
+        b"refused K1 at 7:1: command is too long\n".as_slice()
+    );
+    assert_eq!(rt; turn, Turn::Refused(Code::K1));
+    let (out, turn) = answered::<Brand>(rt.alloc(), b"? 1", Fate::Unfinished, Blank::new(1))?;
+    assert_eq!(rt;
+        out.as_slice(),
+        b"refused K2 at 7:1: block is not closed\n".as_slice()
+    );
+    assert_eq!(rt; turn, Turn::Refused(Code::K2));
+    Ok(())
+}
+
+#[test]
+fn a_sum_has_at_most_256_numbers(rt: HostRuntime) -> Result<(), Fail> {
+    let mut text = Vec::from_slice(rt.alloc(), b"? 1")?;
+    for _ in 0..255 {
+        text.extend_from_slice(b"+1")?;
+    }
+    assert!(rt; text.len() < 65000);
+    let (out, turn) = answered::<Brand>(rt.alloc(), &text, Fate::Whole, Blank::new(1))?;
+    assert_eq!(rt; out.as_slice(), b"-> 256 : Integer\n".as_slice());
+    assert_eq!(rt; turn, Turn::Quiet);
+    text.extend_from_slice(b"+1")?;
+    assert!(rt; text.len() < 65000);
+    let (_, turn) = answered::<Brand>(rt.alloc(), &text, Fate::Whole, Blank::new(1))?;
+    assert_eq!(rt; turn, Turn::Refused(Code::S0));
+    Ok(())
+}

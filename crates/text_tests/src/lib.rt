@@ -1,0 +1,9 @@
+//! Tests of texts and of the grammar.
+#![tactic(auto)]
+
+#[cfg(test)]
+mod grammar;
+#[cfg(test)]
+mod syntax;
+#[cfg(test)]
+mod text;

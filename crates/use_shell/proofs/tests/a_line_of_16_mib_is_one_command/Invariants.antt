@@ -1,4 +1,0 @@
-use Rattle.use_shell.proofs.tests.a_line_of_16_mib_is_one_command.Given as goal
-
-abbrev pub ghosts-played : goal.ghosts-played
-ghosts-played g a = record { name = a.blank.name; parts = a.blank.parts }

@@ -1,4 +1,0 @@
-use Rattle.use_shell.proofs.tests.an_input_past_the_limit_answers_what_ended_within_it.Given as goal
-
-abbrev pub ghosts-played : goal.ghosts-played
-ghosts-played g a = record { name = a.blank.name; parts = a.blank.parts }

@@ -1,4 +1,0 @@
-use Rattle.use_shell.proofs.tests.models.each_rule_refuses_a_model_and_accepts_the_nearest.Given as goal
-
-abbrev pub ghosts-answer : goal.ghosts-answer
-ghosts-answer g a = record { name = a.blank.name; parts = a.blank.parts }

@@ -1,4 +1,0 @@
-use Rattle.use_shell.proofs.tests.models.what_is_not_built_is_told_behind_the_rules.Given as goal
-
-abbrev pub ghosts-answer : goal.ghosts-answer
-ghosts-answer g a = record { name = a.blank.name; parts = a.blank.parts }

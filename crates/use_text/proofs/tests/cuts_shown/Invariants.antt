@@ -1,5 +1,0 @@
-use Rattle.std.proofs.Common.{length}
-use Rattle.use_text.proofs.tests.cuts_shown.Given as goal
-
-abbrev pub decreases-cuts : goal.decreases-cuts
-decreases-cuts l = length l.cutter.waiting
