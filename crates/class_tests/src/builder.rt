@@ -10,9 +10,6 @@ use std::test::Fail;
 use use_lists::Items;
 use use_text::Place;
 
-mod readings;
-mod sample;
-
 fn name(alloc: Global, text: &str) -> Result<Name, Fail> {
     Ok(Name {
         text: Text::copy_of(alloc, text)?,

@@ -8,7 +8,7 @@ use use_syntax::{Parsed, grammar, read_model};
 mod rows;
 mod shown;
 
-use rows::{CONDITIONS, EMPLOYEES, MULTIPLICITIES, ROLES, Row, TYPES, UNBUILT};
+use rows::{CONDITIONS, EMPLOYEES, MULTIPLICITIES, ROLES, Row, TYPES};
 use shown::shown;
 use std::alloc::Global;
 
@@ -70,21 +70,5 @@ fn roles_that_are_not_written(rt: HostRuntime) -> Result<(), Fail> {
 #[test]
 fn conditions_stand_in_the_order_of_the_text_with_their_names(rt: HostRuntime) -> Result<(), Fail> {
     assert!(rt; first_other(rt.alloc(), CONDITIONS)?.is_none());
-    Ok(())
-}
-
-// Whether a model has parts that are not built.
-fn is_unbuilt(alloc: Global, model: &str) -> Result<Option<bool>, Fail> {
-    match read(alloc, model)? {
-        None => Ok(None),
-        Some(parsed) => Ok(Some(has_unbuilt_parts(&decls(alloc, &parsed)?))),
-    }
-}
-
-#[test]
-fn models_with_expressions_have_unbuilt_parts(rt: HostRuntime) -> Result<(), Fail> {
-    'models: for (model, want) in UNBUILT {
-        assert!(rt; is_unbuilt(rt.alloc(), model)? == Some(*want));
-    }
     Ok(())
 }

@@ -371,11 +371,11 @@ module _ (m : ObjectModel) (range : IsInRange m) (is_post : Bool) where
 
 -- ---- the walk
 
-anywhere : {X : Type 0} (o : Option X) → IfSome o (λ x. ⊤)
+pub anywhere : {X : Type 0} (o : Option X) → IfSome o (λ x. ⊤)
 anywhere None = tt
 anywhere (Some x) = tt
 
-every_where : {X : Type 0} (xs : List X) → AllByRecursion (λ x. ⊤) xs
+pub every_where : {X : Type 0} (xs : List X) → AllByRecursion (λ x. ⊤) xs
 every_where [] = tt
 every_where (x ∷ xs) = (tt, every_where xs)
 
@@ -411,7 +411,7 @@ unfolding type_in
 ranges s range zero env f e = tt
 ranges s range (suc n) env f e = leveled_ranges s range e (type_in s n) (λ env f part. ranges s range n env f part) env f
 
-if_typed : {A : Type 0} (P : A → Type 0) (t : Typing A) → Comes Anywhere P t → IfOk t P
+pub if_typed : {A : Type 0} (P : A → Type 0) (t : Typing A) → Comes Anywhere P t → IfOk t P
 if_typed P (Ok a) h = h
 if_typed P (Err r) h = tt
 

@@ -8,4 +8,5 @@ pub mod PlacesStand
 pub mod Types
 pub mod Nodes
 pub mod InRange
+pub mod Now
 mod InTexts

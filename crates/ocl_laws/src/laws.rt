@@ -1,6 +1,7 @@
 ghost use Rattle.std.specs.Prelude.{◌≡◌, IfErr, IfOk};
-ghost use Rattle.std.specs.Prelude.{ℕ, List};
+ghost use Rattle.std.specs.Prelude.{ℕ, List, false};
 ghost use Rattle.use_syntax.specs.Reading.{read_command, read_model};
+ghost use Rattle.ocl_core.specs.Trees.{ReadsNow};
 ghost use Rattle.ocl_rules.specs.Typings.{Tells};
 ghost use Rattle.ocl_scope.specs.Ranges.{IsEnvironmentOf, IsTypedAmong};
 ghost use Rattle.ocl_types.specs.Walk.{type_expr};
@@ -53,6 +54,12 @@ pub fn types_are_in_range(model: &ClassModel, is_post: bool, env: &Environment, 
 {
     model.has_numbers_in_range();
 }
+
+/// What an expression outside a postcondition is given reads the present state alone: no `@pre` and
+/// no `oclIsNew` stands in it.
+pub fn types_read_the_present_state(model: &ClassModel, env: &Environment, written: &Written)
+    ensures { IfOk (type_expr model.now false env.now written.now) (λ x. ReadsNow x.expr) }
+{}
 
 /// An expression that is written at a node is refused at the place of a token of the text, or at 0:0,
 /// which is told where the tree lacks a part or nests more than 1,000 forms.

@@ -5,5 +5,5 @@ mod laws;
 
 pub use laws::{
     refusals_in_texts_stand_at_tokens, refusals_stand_at_tokens, refusals_stand_in_expressions,
-    types_are_in_range, typings_are_told_once,
+    types_are_in_range, types_read_the_present_state, typings_are_told_once,
 };

@@ -1,3 +1,4 @@
 pub mod ContractRows
 pub mod Programs
 pub mod Indexed
+pub mod Bodies

@@ -1,14 +1,12 @@
 -- What a model declares.
-use Rattle.std.specs.Prelude.{ℕ, Bool, true, false, ◌||◌, is_some, List, [], slice_get}
-use Rattle.std.specs.List.{filter_map, flat_map, list_any}
+use Rattle.std.specs.Prelude.{ℕ, List, []}
+use Rattle.std.specs.List.{filter_map, flat_map}
 use Rattle.std.specs.Option.{option_map_or}
 use Rattle.use_text.specs.Places.{place_at}
 use Rattle.use_text.specs.declared.token.Token.{Token}
 use Rattle.grammar_core.specs.Trees.{ParseTree}
 use Rattle.use_nodes.specs.declared.models.FileNode.{FileNode}
 use Rattle.use_nodes.specs.ModelNodes.{file_node}
-use Rattle.class_decls.specs.declared.decls.BodyKind.{BodyKind}
-use Rattle.class_decls.specs.declared.decls.BodyKind.TheVariants.{Bare, Query, Soil}
 use Rattle.class_decls.specs.declared.decls.ClassDecl.{ClassDecl}
 use Rattle.class_decls.specs.declared.decls.Decls.{Decls}
 use Rattle.use_decls.specs.Names.{LexedText, name_at}
@@ -34,15 +32,3 @@ no_decls = record { name = record { text = []; place = place_at 0 0 }; enums = [
 -- the declarations of a model that was read as a tree of these tokens of a text
 abbrev pub decls_of : List ℕ → List Token → ParseTree → Decls
 decls_of text tokens tree = option_map_or (file_decls (record { text = text; tokens = tokens })) (file_node tree) no_decls
-
-abbrev pub has_body : BodyKind → Bool
-has_body Bare = false
-has_body Query = true
-has_body Soil = true
-
-abbrev pub has_unbuilt_features : ClassDecl → Bool
-has_unbuilt_features class = list_any (λ op. has_body op.body) class.ops || list_any (λ attr. attr.is_derived) class.attrs
-
--- whether something is declared that has an expression or statements: an invariant or a contract, a body or a derived attribute
-abbrev pub has_unbuilt_parts : Decls → Bool
-has_unbuilt_parts ds = is_some (slice_get ds.conds 0) || list_any has_unbuilt_features ds.classes

@@ -11,10 +11,9 @@ mod lexed;
 mod positions;
 mod roles;
 mod types;
-mod unbuilt;
 
 pub use declarations::decls;
 pub use declared::push_some;
 pub use lexed::Lexed;
+pub use roles::is_name_kind;
 pub use types::{kind_at, type_decl, type_if};
-pub use unbuilt::has_unbuilt_parts;

@@ -30,7 +30,8 @@ const NAMES: [TokenKind; 14] = [
     TokenKind::View,
 ];
 
-fn is_name_kind(kind: u16) -> bool
+/// Whether a kind of token is that of a name: a plain one, or a command word.
+pub fn is_name_kind(kind: u16) -> bool
     ensures { result ≡ is_name_kind kind }
 {
     NAMES.iter().any(|name| name.number() == kind)

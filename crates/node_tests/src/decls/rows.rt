@@ -162,19 +162,3 @@ post named f@5:14 ( n@5:16 : Integer@5:20 ) : Integer@5:31 of A@5:11 post4@5:62
 ",
     },
 ];
-
-pub(crate) static UNBUILT: &[(&str, bool)] = &[
-    ("model M", false),
-    (
-        "model M class A attributes x : Integer operations f() end",
-        false,
-    ),
-    ("model M class A attributes x : Integer = 1 end", true),
-    ("model M class A operations f() = 1 end", true),
-    ("model M class A operations f() begin end end", true),
-    ("model M class A constraints inv: true end", true),
-    (
-        "model M class A operations f() end constraints context A::f() pre: true",
-        true,
-    ),
-];

@@ -1,0 +1,11 @@
+use Rattle.std.proofs.Common.{◌≡◌}
+use Rattle.model_check.specs.Adding.{each_added}
+use Rattle.model_check.specs.Walk.{declaration, reading}
+use Rattle.model_check.proofs.program.add_declarations.Given as goal
+
+abbrev pub invariant-nodes : goal.invariant-nodes
+invariant-nodes l = record {
+  can : (goal.iterator-nodes).can_next l.node-iterator;
+  ends : (goal.iterator-nodes).is_finite l.node-iterator;
+  so_far : each_added (declaration (reading l.source)) l.found l.node-iterator ≡ each_added (declaration (reading l.source)) l.fn.found l.fn.nodes;
+}

@@ -1,0 +1,4 @@
+pub mod Sizes
+pub mod Taken
+pub mod Ranges
+pub mod Listed

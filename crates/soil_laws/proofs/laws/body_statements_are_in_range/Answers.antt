@@ -1,0 +1,7 @@
+use Rattle.std.specs.Prelude.{false}
+use Rattle.soil_scope.specs.Scenes.{scene}
+use Rattle.soil_laws.proofs.Nesting.{statements_kept}
+use Rattle.soil_laws.proofs.laws.body_statements_are_in_range.Goals as goal
+
+pub returns : goal.returns
+returns c = statements_kept (scene c.args.setting.now) c.has_numbers_in_range.ensures false c.args.variables.now c.requires c.args.block.now

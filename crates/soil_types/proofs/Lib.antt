@@ -1,0 +1,4 @@
+pub mod Elements
+pub mod Leaving
+pub mod Steps
+pub mod Assigned
