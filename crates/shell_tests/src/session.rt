@@ -1,21 +1,35 @@
-ghost use Rattle.std.specs.Prelude.{◌≡◌, ◌<◌, ◌≤◌, IfOk, length};
+ghost use Rattle.std.specs.Prelude.{◌≡◌, ◌<◌, ◌≤◌, IfOk, IfSome, false, length};
 ghost use Rattle.use_text.specs.Limits.{max_command};
 ghost use Rattle.use_syntax.specs.Language.{language};
 
 use grammar_core::Grammar;
+use model_check::check_model;
+use ocl_program::Program;
 use std::alloc::Global;
 use std::marker::Brand;
 use std::sync::ledger::{Blank, Ledger};
 use std::test::Fail;
 use use_session::*;
 use use_steps::Steps;
-use use_syntax::grammar;
+use use_syntax::{grammar, read_model};
 use use_text::{Bytes, Code, Cut, Fate};
 
 fn language(alloc: Global) -> Result<Grammar, Fail>
     ensures { IfOk result (λ g. g ≡ language) }
 {
     Ok(grammar(alloc)?)
+}
+
+fn program(alloc: Global, g: &Grammar) -> Result<Option<Program>, Fail>
+    requires { g.now ≡ language }
+{
+    match read_model(alloc, g, b"model E") {
+        Err(_) => Ok(None),
+        Ok(parsed) => match check_model(alloc, &parsed) {
+            Err(_) => Ok(None),
+            Ok(program) => Ok(Some(program)),
+        },
+    }
 }
 
 // What a new session writes for a command whose first line is 7, and how the command ends.
@@ -31,13 +45,17 @@ fn answered<L: Ledger>(
     requires short { length text.now ≤ max_command }
 {
     let mut steps = Steps::<L>::new(blank);
-    let mut session = Session::new(alloc, language(alloc)?);
+    let mut out = Vec::new(alloc);
+    let g = language(alloc)?;
+    let Some(program) = program(alloc, &g)? else {
+        return Ok((out, Turn::Refused(Code::F1)));
+    };
+    let mut session = Session::new(alloc, g, program);
     let cut = Cut {
         text: Bytes::from_slice(alloc, text)?,
         first_line: 7,
         fate,
     };
-    let mut out = Vec::new(alloc);
     let turn = session.command(&cut, &mut out, &mut steps)?;
     Ok((out, turn))
 }

@@ -1,3 +1,5 @@
 pub mod Commands
+pub mod Answers
 pub mod Machine
+pub mod Answering
 pub mod Sums

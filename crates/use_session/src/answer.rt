@@ -2,7 +2,8 @@ ghost use Rattle.std.specs.Prelude.{◌≡◌, ◌++◌, OnOk, IfOk, All};
 ghost use Rattle.std.specs.Int.{IsNonNegative};
 ghost use Rattle.use_session.specs.Sums.{AddsUp};
 ghost use Rattle.ocl_values.specs.Integers.{int_value};
-ghost use Rattle.use_session.specs.Machine.{total, value_line, refusal_line, start, carried_out};
+ghost use Rattle.use_session.specs.Answers.{refusal_line, value_line};
+ghost use Rattle.use_session.specs.Machine.{Machine, carried_out, total};
 
 use crate::Turn;
 use crate::command::Command;
@@ -68,8 +69,8 @@ fn write_refusal(refusal: Refusal, out: &mut Vec<u8>) -> Result<(), AllocError>
 /// Carries out a command, and writes its answer.
 pub fn carry_out(alloc: Global, command: &Command, out: &mut Vec<u8>) -> Result<Turn, AllocError>
     requires { AddsUp command.now }
-    ensures bytes { OnOk result (out.new.items ≡ out.old.items ++ (carried_out start command.now).bytes) }
-    ensures turn { IfOk result (λ turn. turn ≡ (carried_out start command.now).turn) }
+    ensures bytes { (m : Machine) → OnOk result (out.new.items ≡ out.old.items ++ (carried_out m command.now).bytes) }
+    ensures turn { (m : Machine) → IfOk result (λ turn. turn ≡ (carried_out m command.now).turn) }
 {
     match command {
         Command::Empty => Ok(Turn::Quiet),

@@ -3,4 +3,4 @@ pub mod PlayLemmas
 pub mod LimitLemmas
 pub mod StreamLemmas
 pub mod SourceLemmas
-pub mod Refused
+pub mod Named

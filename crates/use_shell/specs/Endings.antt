@@ -1,14 +1,15 @@
 -- How a run ends, where source, sink and shelf tell their bytes, and what each answer's cause is.
-use Rattle.std.specs.Prelude.{ℕ, ◌≡◌, ◌⊎◌, true, false, List, ◌++◌, Option, None, IsSome, IfSome, ⊤}
+use Rattle.std.specs.Prelude.{ℕ, ◌≡◌, ◌≤◌, ◌+◌, ◌⊎◌, true, false, List, ◌++◌, Option, Some, None, IsSome, IfSome, ⊤}
 use Rattle.std.specs.Io.KnownBytes.{Appends, Consumes, IsAtEnd}
 use Rattle.use_io.specs.Causes.{Rose}
 use Rattle.use_io.specs.Shelves.{Files}
 use Rattle.use_text.specs.Cuts.{ended}
+use Rattle.ocl_core.specs.declared.program.ProgramParts.{ProgramParts}
 use Rattle.use_session.specs.Machine.{start}
 use Rattle.use_shell.specs.declared.status.Status.{Status}
 use Rattle.use_shell.specs.declared.status.Status.TheVariants.{Done, Usage, ModelRefused, ReadFault, WriteFault, Memory, TooLong}
 use Rattle.use_shell.specs.Words.{model_word}
-use Rattle.use_shell.specs.Output.{Ending, max_input, play, is_too_long, refusal_for, output}
+use Rattle.use_shell.specs.Output.{Ending, budget, max_input, play, is_too_long, program_for, refusal_for, output}
 
 -- a front of the bytes was written
 pub record AppendsFront (old new : Option (List ℕ)) (bytes : List ℕ) : Type 0 where
@@ -63,13 +64,22 @@ pub record HasModelCause (words : List (List ℕ)) (before now : ℕ) (status : 
   pub always : IsSome (refusal_for words files) → EndsByModel status
   pub shelf : IsSome (refusal_for words files) → status ≡ ReadFault → Rose before now
 
--- Of the two statuses of a run that was played to its end, TooLong comes exactly where the input is too long.
-pub record HasLimitCause (limit : ℕ) (status : Status) (input : List ℕ) : Type 0 where
-  pub only : status ≡ TooLong → is_too_long limit input ≡ true
-  pub within : status ≡ Done → is_too_long limit input ≡ false
+-- The program that was played, of which something holds: that of the model which the words name, where the shelf tells its files.
+pub record OfProgram (words : List (List ℕ)) (files : Option Files) (Holds : ProgramParts → Type 0) : Type 0 where
+  pub program : ProgramParts
+  pub named : IfSome files (λ held. program_for words held ≡ Some program)
+  pub holds : Holds program
 
-abbrev pub HasLengthCause : Status → List ℕ → Type 0
-HasLengthCause status input = HasLimitCause max_input status input
+-- the input is too long, or it is not
+abbrev pub IsTooLong : Option (List ℕ) → ProgramParts → Type 0
+IsTooLong left p = IfSome left (λ input. is_too_long p max_input input ≡ true)
+
+abbrev pub IsWithinLimit : Option (List ℕ) → ProgramParts → Type 0
+IsWithinLimit left p = IfSome left (λ input. is_too_long p max_input input ≡ false)
+
+-- evaluations spent no more than the machine's do, where shelf and source tell their bytes
+abbrev pub IsWithinBudget : List (List ℕ) → Option Files → Option (List ℕ) → ℕ → ℕ → Type 0
+IsWithinBudget words files left before now = IfSome files (λ held. IfSome left (λ input. now ≤ before + budget words held input))
 
 -- no count of faults rose in a run, or stands at its last value: of source, shelf and sink, before and now
 pub record NoneRose (source source_now shelf shelf_now sink sink_now : ℕ) : Type 0 where
@@ -87,22 +97,22 @@ RunIsComplete words files left status = IfSome files (λ held. IfSome left (λ i
 
 -- The source was taken to its end, or through the piece in which the command ends that ended the run. `before` is what was taken before
 -- that piece.
-pub record TakenByCommand (left now : Option (List ℕ)) : Type 0 where
+pub record TakenByCommand (p : ProgramParts) (left now : Option (List ℕ)) : Type 0 where
   pub before : List ℕ
   pub front : List ℕ
   pub rest : List ℕ
   pub taken : Consumes left now (before ++ (front ++ rest))
-  pub goes_on : (play start (ended before)).over ≡ false
-  pub over : (play start (ended (before ++ front))).over ≡ true
+  pub goes_on : (play (start p) (ended before)).over ≡ false
+  pub over : (play (start p) (ended (before ++ front))).over ≡ true
 
-abbrev pub IsTaken : Option (List ℕ) → Option (List ℕ) → Type 0
-IsTaken left now = IsAtEnd now ⊎ TakenByCommand left now
+abbrev pub IsTaken : Option (List ℕ) → Option (List ℕ) → ProgramParts → Type 0
+IsTaken left now p = IsAtEnd now ⊎ TakenByCommand p left now
 
 -- The source failed: what was written are the answers to the commands that end in the bytes that were taken.
-pub record AnswersTaken (left now old new : Option (List ℕ)) : Type 0 where
+pub record AnswersTaken (left now old new : Option (List ℕ)) (p : ProgramParts) : Type 0 where
   pub taken : List ℕ
   pub from : Consumes left now taken
-  pub written : Appends old new (play start (ended taken)).bytes
+  pub written : Appends old new (play (start p) (ended taken)).bytes
 
 -- the source is as it was, where the words or the model are refused
 pub record LeavesSource (words : List (List ℕ)) (files : Option Files) (status : Status) (same : Type 0) : Type 0 where

@@ -6,9 +6,10 @@ use Rattle.use_shell.specs.declared.status.Status.{Status}
 use Rattle.use_shell.specs.declared.status.Status.TheVariants.{Done, Usage, ModelRefused, ReadFault, WriteFault, Memory, TooLong}
 use Rattle.use_shell.specs.declared.stop.Stop.{Stop}
 use Rattle.use_shell.specs.declared.stop.Stop.TheVariants.{Read, Write, Memory as Wanting}
+use Rattle.ocl_core.specs.declared.program.ProgramParts.{ProgramParts}
 use Rattle.use_shell.specs.Words.{model_word}
 use Rattle.use_shell.specs.Output.{Ending, refusal_for, output}
-use Rattle.use_shell.specs.Endings.{AppendsFront, EndsWith, HasLengthCause, IsTaken}
+use Rattle.use_shell.specs.Endings.{AppendsFront, EndsWith, IsTaken, IsTooLong, IsWithinLimit, OfProgram}
 
 abbrev pub Finishes : Ending → Option (List ℕ) → Option (List ℕ) → Result Status Stop → Type 0
 Finishes e old new (Ok status) = EndsWith e status old new
@@ -49,15 +50,25 @@ pub record StopsByModel (words : List (List ℕ)) (result : Result Status Stop) 
   pub only : IfOk result (λ status. status ≡ ModelRefused → IsSome (refusal_for words files))
   pub always : IsSome (refusal_for words files) → IfOk result (λ status. status ≡ ModelRefused)
 
-abbrev pub StopsByLength : Result Status Stop → List ℕ → Type 0
-StopsByLength result input = IfOk result (λ status. HasLengthCause status input)
+-- of a program that was played: whether the input is too long
+pub record StopsByLength (left : Option (List ℕ)) (result : Result Status Stop) (p : ProgramParts) : Type 0 where
+  pub too_long : IfOk result (λ status. status ≡ TooLong → IsTooLong left p)
+  pub within : IfOk result (λ status. status ≡ Done → IsWithinLimit left p)
+
+-- the same of the program of the model that the words name
+pub record RunStopsByLength (words : List (List ℕ)) (files : Option Files) (left : Option (List ℕ)) (result : Result Status Stop) : Type 0 where
+  pub too_long : IfOk result (λ status. status ≡ TooLong → OfProgram words files (IsTooLong left))
+  pub within : IfOk result (λ status. status ≡ Done → OfProgram words files (IsWithinLimit left))
 
 -- where the model is refused, only a fault of the shelf stops the reading
 abbrev pub StopsByShelf : List (List ℕ) → Files → ℕ → ℕ → Result Status Stop → Type 0
 StopsByShelf words files before now result = IsSome (refusal_for words files) → IsErrOf result Read → Rose before now
 
-abbrev pub FinishesTaken : Option (List ℕ) → Option (List ℕ) → Result Status Stop → Type 0
-FinishesTaken left now result = IfOk result (λ status. status ≡ Done → IsTaken left now)
+abbrev pub FinishesTaken : Option (List ℕ) → Option (List ℕ) → Result Status Stop → ProgramParts → Type 0
+FinishesTaken left now result p = IfOk result (λ status. status ≡ Done → IsTaken left now p)
+
+abbrev pub RunFinishesTaken : List (List ℕ) → Option Files → Option (List ℕ) → Option (List ℕ) → Result Status Stop → Type 0
+RunFinishesTaken words files left now result = IfOk result (λ status. status ≡ Done → OfProgram words files (IsTaken left now))
 
 pub record StopsUntouched (words : List (List ℕ)) (files : Option Files) (same : Type 0) (result : Result Status Stop) : Type 0 where
   pub words_refused : model_word words ≡ None → same

@@ -1,5 +1,6 @@
 pub mod Words
 pub mod Models
+pub mod ModelReadings
 pub mod Output
 pub mod Endings
 pub mod Finishes

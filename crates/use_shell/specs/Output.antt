@@ -1,17 +1,22 @@
 -- What the program writes, and with which status it ends.
-use Rattle.std.specs.Prelude.{ℕ, nat_lt, Bool, true, false, not, ◌&&◌, if◌then◌else◌, List, [], ◌∷◌, ◌++◌, length, take, Option, Some, None, option_and_then}
+use Rattle.std.specs.Prelude.{ℕ, ◌+◌, nat_lt, Bool, true, false, not, ◌&&◌, if◌then◌else◌, List, [], ◌∷◌, ◌++◌, length, take, Option, Some, None, Ok, Err}
+use Rattle.std.specs.Option.{option_map, option_and_then}
+use Rattle.std.specs.Result.{result_err, result_ok}
 use Rattle.std.specs.FinMap.{get}
 use Rattle.use_io.specs.Shelves.{Files}
 use Rattle.use_text.specs.declared.cut.Cut.{Cut}
 use Rattle.use_text.specs.declared.refusal.Refusal.{Refusal}
 use Rattle.use_text.specs.Cuts.{cuts, ended}
+use Rattle.ocl_core.specs.declared.program.ProgramParts.{ProgramParts}
+use Rattle.ocl_rules.specs.Typings.{Typing}
 use Rattle.use_session.specs.declared.session.Turn.{Turn}
 use Rattle.use_session.specs.declared.session.Turn.TheVariants.{Quiet, Refused}
-use Rattle.use_session.specs.Machine.{Machine, start, step, refusal_line}
+use Rattle.use_session.specs.Answers.{refusal_line}
+use Rattle.use_session.specs.Machine.{Machine, start, step}
 use Rattle.use_shell.specs.declared.status.Status.{Status}
 use Rattle.use_shell.specs.declared.status.Status.TheVariants.{Done, Usage, ModelRefused, TooLong}
 use Rattle.use_shell.specs.Words.{usage_line, model_word}
-use Rattle.use_shell.specs.Models.{model_refusal}
+use Rattle.use_shell.specs.Models.{model_of_file}
 
 -- the most bytes of an input
 abbrev pub max_input : ℕ
@@ -22,61 +27,78 @@ abbrev pub ends_run : Turn → Bool
 ends_run Quiet = false
 ends_run (Refused code) = false
 
--- what commands lead to: the machine behind them, the bytes that they write, and whether one of them ended the run
+-- what commands lead to: the machine behind them, the bytes that they write, whether one of them ended the run, and the units that their
+-- evaluations spend
 pub record Played : Type 0 where
   pub machine : Machine
   pub bytes : List ℕ
   pub over : Bool
+  pub units : ℕ
 
-abbrev pub played : Machine → List ℕ → Bool → Played
-played m bytes over = record { machine = m; bytes = bytes; over = over }
+abbrev pub played : Machine → Bool → Played
+played m over = record { machine = m; bytes = []; over = over; units = 0 }
 
--- these bytes, and then those that are played
-abbrev pub after : List ℕ → Played → Played
-after bytes p = played p.machine (bytes ++ p.bytes) p.over
+-- these bytes and units, and then those of what is played
+abbrev pub after : List ℕ → ℕ → Played → Played
+after bytes units p = record { machine = p.machine; bytes = bytes ++ p.bytes; over = p.over; units = units + p.units }
 
 -- the commands, one step of the machine after another, as far as the run goes
 abbrev pub play : Machine → List Cut → Played
-play m [] = played m [] false
-play m (cut ∷ more) = let s = step m cut in after s.bytes (if ends_run s.turn then played s.machine [] true else play s.machine more)
+play m [] = played m false
+play m (cut ∷ more) = let s = step m cut in after s.bytes s.units (if ends_run s.turn then played s.machine true else play s.machine more)
 
--- the bytes that are written, and the status
+-- the bytes that are written, the status, and the units that evaluations spend at most
 pub record Ending : Type 0 where
   pub bytes : List ℕ
   pub status : Status
+  pub units : ℕ
 
-abbrev pub ending : List ℕ → Status → Ending
-ending bytes status = record { bytes = bytes; status = status }
+-- an ending without any command
+abbrev pub plain : List ℕ → Status → Ending
+plain bytes status = record { bytes = bytes; status = status; units = 0 }
+
+abbrev pub ending : Played → Status → Ending
+ending p status = record { bytes = p.bytes; status = status; units = p.units }
 
 -- what the commands write that end in the front of an input
-abbrev pub play_within : ℕ → List ℕ → Played
-play_within limit input = play start (ended (take limit input))
+abbrev pub play_within : ProgramParts → ℕ → List ℕ → Played
+play_within p limit input = play (start p) (ended (take limit input))
 
 -- an input is longer than a limit, and no command that ends within the limit ends the run
-abbrev pub is_too_long : ℕ → List ℕ → Bool
-is_too_long limit input = nat_lt limit (length input) && not (play_within limit input).over
+abbrev pub is_too_long : ProgramParts → ℕ → List ℕ → Bool
+is_too_long p limit input = nat_lt limit (length input) && not (play_within p limit input).over
 
 -- of an input that is too long, the commands that end within the limit are answered
-abbrev pub of_input_within : ℕ → List ℕ → Ending
-of_input_within limit input =
-    if is_too_long limit input then ending (play_within limit input).bytes TooLong
-    else ending (play start (cuts input)).bytes Done
+abbrev pub of_input_within : ProgramParts → ℕ → List ℕ → Ending
+of_input_within p limit input =
+    if is_too_long p limit input then ending (play_within p limit input) TooLong
+    else ending (play (start p) (cuts input)) Done
 
-abbrev pub of_input : List ℕ → Ending
-of_input input = of_input_within max_input input
+abbrev pub of_input : ProgramParts → List ℕ → Ending
+of_input p input = of_input_within p max_input input
 
--- why the model that the words name is refused, if they name one and it is
+-- the model that the words name, if they name one: its program, or why it is refused
+abbrev pub model_for : List (List ℕ) → Files → Option (Typing ProgramParts)
+model_for words files = option_map (λ name. model_of_file (get files name)) (model_word words)
+
 abbrev pub refusal_for : List (List ℕ) → Files → Option Refusal
-refusal_for words files = option_and_then (λ name. model_refusal (get files name)) (model_word words)
+refusal_for words files = option_and_then (λ m. result_err m) (model_for words files)
 
-abbrev pub of_model : Option Refusal → List ℕ → Ending
-of_model (Some refusal) input = ending (refusal_line refusal) ModelRefused
-of_model None input = of_input input
+abbrev pub program_for : List (List ℕ) → Files → Option ProgramParts
+program_for words files = option_and_then (λ m. result_ok m) (model_for words files)
 
-abbrev pub of_word : Option (List ℕ) → Files → List ℕ → Ending
-of_word None files input = ending usage_line Usage
-of_word (Some name) files input = of_model (model_refusal (get files name)) input
+abbrev pub of_model : Typing ProgramParts → List ℕ → Ending
+of_model (Err refusal) input = plain (refusal_line refusal) ModelRefused
+of_model (Ok p) input = of_input p input
+
+abbrev pub of_models : Option (Typing ProgramParts) → List ℕ → Ending
+of_models None input = plain usage_line Usage
+of_models (Some m) input = of_model m input
 
 -- the output for these words, files and input
 abbrev pub output : List (List ℕ) → Files → List ℕ → Ending
-output words files input = of_word (model_word words) files input
+output words files input = of_models (model_for words files) input
+
+-- what the evaluations of all commands that are played spend
+abbrev pub budget : List (List ℕ) → Files → List ℕ → ℕ
+budget words files input = (output words files input).units

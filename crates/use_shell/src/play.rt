@@ -1,18 +1,19 @@
-ghost use Rattle.std.specs.Prelude.{◌≡◌, ◌≤◌, ◌+◌, ◌++◌, List, ℕ, IfOk, OnOk, OnErr, IsErrOf, IsOkUnless, length, false};
+ghost use Rattle.std.specs.Prelude.{◌≡◌, ◌≤◌, ◌+◌, ◌++◌, [], List, ℕ, IfOk, OnOk, OnErr, IsErrOf, IsOkUnless, length, false};
 ghost use Rattle.use_io.specs.Causes.{Rose};
 ghost use Rattle.use_text.specs.Cuts.{StaysEnded, IsCommand};
 ghost use Rattle.use_text.specs.Keeping.{StandsFor};
 ghost use Rattle.use_text.specs.Limits.{max_lines};
 ghost use Rattle.use_syntax.specs.Language.{language};
-ghost use Rattle.use_session.specs.Machine.{step};
-ghost use Rattle.use_shell.specs.Output.{ends_run, play, max_input};
-ghost use Rattle.use_shell.specs.Plays.{IsReady, PlaysPiece, PlaysPieceFront, PlaysLast, FrontOfLast, Streams};
+ghost use Rattle.use_session.specs.Machine.{start, step};
+ghost use Rattle.use_shell.specs.Output.{ends_run, max_input, play};
+ghost use Rattle.use_shell.specs.Plays.{CountsFront, CountsLast, FrontOfLast, IsReady, PlaysLast, PlaysPiece, PlaysPieceFront, Streams};
 ghost use Rattle.use_shell.specs.Stops.{StopsByWrite};
 
 use crate::Status;
 use crate::moves::{put_all, take_piece};
 use crate::stop::Stop;
 use grammar_core::Grammar;
+use ocl_program::Program;
 use std::alloc::Global;
 use std::sync::ledger::Ledger;
 use use_io::{Sink, Source};
@@ -45,8 +46,8 @@ fn answer<L: Ledger>(
     ensures ends { IfOk result (λ over. over ≡ ends_run (step session.old.machine cut.now).turn) }
     ensures machine { OnOk result (session.new.machine ≡ (step session.old.machine cut.now).machine) }
     ensures over { OnOk result (session.new.over ≡ false) }
+    ensures units { OnOk result (steps.new ≡ steps.old + (step session.old.machine cut.now).units) }
     ensures memory { IsOkUnless result Stop.Memory }
-    ensures steps { steps.new ≡ steps.old }
 {
     match session.command(cut, out, steps) {
         Ok(turn) => Ok(ends_run(turn)),
@@ -69,8 +70,8 @@ fn answer_waiting<L: Ledger>(
     ensures machine { IfOk result (λ over. over ≡ false → session.new.machine ≡ (play session.old.machine cutter.old.waiting).machine) }
     ensures ready { IfOk result (λ over. over ≡ false → IsReady session.new cutter.new) }
     ensures rest { OnOk result ((cutter.new.kept ≡ cutter.old.kept) × (cutter.new.count ≡ cutter.old.count)) }
+    ensures units { OnOk result (steps.new ≡ steps.old + (play session.old.machine cutter.old.waiting).units) }
     ensures memory { IsOkUnless result Stop.Memory }
-    ensures steps { steps.new ≡ steps.old }
 {
     'cuts: while let Some(cut) = cutter.next() {
         if answer(session, &cut, out, steps)? {
@@ -92,12 +93,12 @@ fn play_piece<K: Sink, L: Ledger>(
 ) -> Result<bool, Stop>
     requires ready { IsReady session.old cutter.old }
     requires count { cutter.old.count + length piece.now ≤ max_lines }
-    ensures ok { IfOk result (PlaysPiece session.old cutter.old piece.now session.new cutter.new (K.written sink.old) (K.written sink.new)) }
+    ensures ok { IfOk result (PlaysPiece session.old cutter.old piece.now session.new cutter.new (K.written sink.old) (K.written sink.new) steps.old steps.new) }
     ensures err { OnErr result (PlaysPieceFront session.old cutter.old piece.now (K.written sink.old) (K.written sink.new)) }
     ensures ready { IfOk result (λ over. over ≡ false → IsReady session.new cutter.new) }
     ensures count { OnOk result (cutter.new.count ≤ cutter.old.count + length piece.now) }
+    ensures units { IsErrOf result Stop.Write → (bytes : List ℕ) → StandsFor cutter.old bytes → CountsFront session.old.machine bytes piece.now steps.old steps.new }
     ensures cause { StopsByWrite (K.faults sink.old) (K.faults sink.new) result }
-    ensures steps { steps.new ≡ steps.old }
 {
     let mut out = Vec::new(alloc);
     cutter.feed(piece)?;
@@ -116,11 +117,11 @@ fn play_last<K: Sink, L: Ledger>(
 ) -> Result<(), Stop>
     requires ready { IsReady session.old cutter.old }
     requires count { cutter.old.count + 2 ≤ max_lines }
-    ensures ok { OnOk result ((bytes : List ℕ) → StandsFor cutter.old bytes → PlaysLast session.old.machine bytes (K.written sink.old) (K.written sink.new)) }
+    ensures ok { OnOk result ((bytes : List ℕ) → StandsFor cutter.old bytes → PlaysLast session.old.machine bytes (K.written sink.old) (K.written sink.new) steps.old steps.new) }
     ensures err { OnErr result ((bytes : List ℕ) → StandsFor cutter.old bytes
         → FrontOfLast session.old.machine bytes (K.written sink.old) (K.written sink.new)) }
+    ensures units { IsErrOf result Stop.Write → (bytes : List ℕ) → StandsFor cutter.old bytes → CountsLast session.old.machine bytes steps.old steps.new }
     ensures cause { StopsByWrite (K.faults sink.old) (K.faults sink.new) result }
-    ensures steps { steps.new ≡ steps.old }
 {
     let mut out = Vec::new(alloc);
     let Some(cut) = cutter.finish() else {
@@ -130,11 +131,51 @@ fn play_last<K: Sink, L: Ledger>(
     put_all(sink, &out)
 }
 
+/// Plays what is left of a source by a session before its first command, as `play_source` does.
+fn play_pieces<S: Source, K: Sink, L: Ledger>(
+    alloc: Global,
+    limit: usize,
+    session: &mut Session,
+    cutter: &mut Cutter,
+    source: &mut S,
+    sink: &mut K,
+    steps: &mut Steps<L>,
+) -> Result<Status, Stop>
+    requires limit { limit ≤ max_input }
+    requires stays { StaysEnded }
+    requires machine { session.old.machine ≡ start session.old.machine.program }
+    requires ready { IsReady session.old cutter.old }
+    requires stands { StandsFor cutter.old [] }
+    requires count { cutter.old.count ≡ 0 }
+    ensures played { Streams session.old.machine.program limit (S.left source.old) (S.left source.new) (K.written sink.old) (K.written sink.new) steps.old steps.new result }
+    ensures read { IsErrOf result Stop.Read → Rose (S.faults source.old) (S.faults source.new) }
+    ensures write { IsErrOf result Stop.Write → Rose (K.faults sink.old) (K.faults sink.new) }
+{
+    let mut piece = [0u8; PIECE];
+    let mut taken = 0usize;
+    'pieces: loop {
+        let count = take_piece(source, &mut piece)?;
+        if count == 0 {
+            play_last(alloc, session, cutter, sink, steps)?;
+            return Ok(Status::Done);
+        }
+        let within = count.min(limit - taken);
+        if play_piece(alloc, session, cutter, &piece[..within], sink, steps)? {
+            return Ok(Status::Done);
+        }
+        if within < count {
+            return Ok(Status::TooLong);
+        }
+        taken += count;
+    }
+}
+
 /// Plays a source to its end, to a command that ends the run, or to so many bytes. The commands
 /// that end in a piece are answered before the next piece is taken.
 pub fn play_source<S: Source, K: Sink, L: Ledger>(
     alloc: Global,
     grammar: Grammar,
+    program: Program,
     limit: usize,
     source: &mut S,
     sink: &mut K,
@@ -143,35 +184,11 @@ pub fn play_source<S: Source, K: Sink, L: Ledger>(
     requires table { grammar ≡ language }
     requires limit { limit ≤ max_input }
     ensures stays { StaysEnded }
-    ensures played { Streams limit (S.left source.old) (S.left source.new) (K.written sink.old) (K.written sink.new) result }
+    ensures played { Streams program limit (S.left source.old) (S.left source.new) (K.written sink.old) (K.written sink.new) steps.old steps.new result }
     ensures read { IsErrOf result Stop.Read → Rose (S.faults source.old) (S.faults source.new) }
     ensures write { IsErrOf result Stop.Write → Rose (K.faults sink.old) (K.faults sink.new) }
-    ensures steps { steps.new ≡ steps.old }
 {
-    let mut session = Session::new(alloc, grammar);
+    let mut session = Session::new(alloc, grammar, program);
     let mut cutter = Cutter::new(alloc);
-    let mut piece = [0u8; PIECE];
-    let mut taken = 0usize;
-    'pieces: loop {
-        let count = take_piece(source, &mut piece)?;
-        if count == 0 {
-            play_last(alloc, &mut session, &mut cutter, sink, steps)?;
-            return Ok(Status::Done);
-        }
-        let within = count.min(limit - taken);
-        if play_piece(
-            alloc,
-            &mut session,
-            &mut cutter,
-            &piece[..within],
-            sink,
-            steps,
-        )? {
-            return Ok(Status::Done);
-        }
-        if within < count {
-            return Ok(Status::TooLong);
-        }
-        taken += count;
-    }
+    play_pieces(alloc, limit, &mut session, &mut cutter, source, sink, steps)
 }

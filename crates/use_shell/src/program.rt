@@ -1,21 +1,22 @@
-ghost use Rattle.std.specs.Prelude.{◌≡◌, ◌⊎◌, IfOk, IfSome, OnOk, OnErr, IsErrOf};
+ghost use Rattle.std.specs.Prelude.{◌≡◌, ◌≤◌, ◌+◌, ◌⊎◌, IfOk, IfSome, OnOk, OnErr, IsErrOf};
 ghost use Rattle.std.specs.Io.KnownBytes.{Appends};
 ghost use Rattle.use_io.specs.Causes.{Rose};
 ghost use Rattle.use_syntax.specs.Language.{language};
-ghost use Rattle.use_session.specs.Machine.{refusal_line};
+ghost use Rattle.use_session.specs.Answers.{refusal_line};
 ghost use Rattle.use_shell.specs.Words.{usage_line, words_of};
 ghost use Rattle.use_shell.specs.Output.{of_input};
-ghost use Rattle.use_shell.specs.Endings.{AppendsFront, RunEnds, HasUsageCause, HasModelCause, HasLengthCause, NoneRose, RunIsComplete, IsTaken, AnswersTaken, LeavesSource};
-ghost use Rattle.use_shell.specs.Finishes.{Finishes, RunFinishes, IsFinal, IsPlayed, StopsByUsage, StopsByModel, StopsByLength, StopsByShelf, FinishesTaken, StopsUntouched};
+ghost use Rattle.use_shell.specs.Endings.{AnswersTaken, AppendsFront, HasModelCause, HasUsageCause, IsTaken, IsTooLong, IsWithinBudget, IsWithinLimit, LeavesSource, NoneRose, OfProgram, RunEnds, RunIsComplete};
+ghost use Rattle.use_shell.specs.Finishes.{Finishes, FinishesTaken, IsFinal, IsPlayed, RunFinishes, RunFinishesTaken, RunStopsByLength, StopsByLength, StopsByModel, StopsByShelf, StopsByUsage, StopsUntouched};
 ghost use Rattle.use_shell.specs.Stops.{StopsByWrite};
 
 use crate::Status;
-use crate::model::{language, model_refusal};
+use crate::model::{NoProgram, language, model_of_file};
 use crate::moves::put_all;
 use crate::play::play_source;
 use crate::stop::Stop;
 use crate::words::{model_word, usage_line};
 use grammar_core::Grammar;
+use ocl_program::Program;
 use std::alloc::Global;
 use std::sync::ledger::Ledger;
 use use_io::{Shelf, Sink, Source};
@@ -53,21 +54,22 @@ fn show_refusal<K: Sink>(alloc: Global, refusal: Refusal, sink: &mut K) -> Resul
 fn play_commands<S: Source, K: Sink, L: Ledger>(
     alloc: Global,
     grammar: Grammar,
+    program: Program,
     source: &mut S,
     sink: &mut K,
     steps: &mut Steps<L>,
 ) -> Result<Status, Stop>
     requires { grammar ≡ language }
-    ensures bytes { IfSome (S.left source.old) (λ input. Finishes (of_input input) (K.written sink.old) (K.written sink.new) result) }
-    ensures length { IfSome (S.left source.old) (StopsByLength result) }
+    ensures bytes { IfSome (S.left source.old) (λ input. Finishes (of_input program input) (K.written sink.old) (K.written sink.new) result) }
+    ensures length { StopsByLength (S.left source.old) result program }
     ensures played { IfOk result IsPlayed }
-    ensures taken { FinishesTaken (S.left source.old) (S.left source.new) result }
-    ensures fault { IsErrOf result Stop.Read → AnswersTaken (S.left source.old) (S.left source.new) (K.written sink.old) (K.written sink.new) }
+    ensures taken { FinishesTaken (S.left source.old) (S.left source.new) result program }
+    ensures fault { IsErrOf result Stop.Read → AnswersTaken (S.left source.old) (S.left source.new) (K.written sink.old) (K.written sink.new) program }
+    ensures units { IsErrOf result Stop.Memory ⊎ IfSome (S.left source.old) (λ input. steps.new ≤ steps.old + (of_input program input).units) }
     ensures read { IsErrOf result Stop.Read → Rose (S.faults source.old) (S.faults source.new) }
     ensures write { IsErrOf result Stop.Write → Rose (K.faults sink.old) (K.faults sink.new) }
-    ensures steps { steps.new ≡ steps.old }
 {
-    play_source(alloc, grammar, MAX_INPUT, source, sink, steps)
+    play_source(alloc, grammar, program, MAX_INPUT, source, sink, steps)
 }
 
 /// Plays the words, and tells how the run ended, or what stopped it.
@@ -82,24 +84,25 @@ fn play_words<F: Shelf, S: Source, K: Sink, L: Ledger>(
     ensures bytes { RunFinishes (words_of words.now) (F.files shelf.old) (S.left source.old) (K.written sink.old) (K.written sink.new) result }
     ensures usage { StopsByUsage (words_of words.now) result }
     ensures model { IfSome (F.files shelf.old) (StopsByModel (words_of words.now) result) }
-    ensures length { IfSome (S.left source.old) (StopsByLength result) }
+    ensures length { RunStopsByLength (words_of words.now) (F.files shelf.old) (S.left source.old) result }
     ensures status { IfOk result IsFinal }
-    ensures taken { FinishesTaken (S.left source.old) (S.left source.new) result }
+    ensures taken { RunFinishesTaken (words_of words.now) (F.files shelf.old) (S.left source.old) (S.left source.new) result }
     ensures untouched { StopsUntouched (words_of words.now) (F.files shelf.old) (source.new ≡ source.old) result }
     ensures fault { IsErrOf result Stop.Read → ¬ Rose (F.faults shelf.old) (F.faults shelf.new)
-        → AnswersTaken (S.left source.old) (S.left source.new) (K.written sink.old) (K.written sink.new) }
+        → OfProgram (words_of words.now) (F.files shelf.old) (AnswersTaken (S.left source.old) (S.left source.new) (K.written sink.old) (K.written sink.new)) }
     ensures read { IsErrOf result Stop.Read → Rose (S.faults source.old) (S.faults source.new) ⊎ Rose (F.faults shelf.old) (F.faults shelf.new) }
     ensures shelf { IfSome (F.files shelf.old) (λ files. StopsByShelf (words_of words.now) files (F.faults shelf.old) (F.faults shelf.new) result) }
     ensures write { IsErrOf result Stop.Write → Rose (K.faults sink.old) (K.faults sink.new) }
-    ensures steps { steps.new ≡ steps.old }
+    ensures units { IsErrOf result Stop.Memory ⊎ IsWithinBudget (words_of words.now) (F.files shelf.old) (S.left source.old) steps.old steps.new }
 {
     let Some(name) = model_word(words) else {
         return show_usage(sink);
     };
     let grammar = language(alloc)?;
-    match model_refusal(alloc, &grammar, shelf, name)? {
-        Some(refusal) => show_refusal(alloc, refusal, sink),
-        None => play_commands(alloc, grammar, source, sink, steps),
+    match model_of_file(alloc, &grammar, shelf, name) {
+        Ok(program) => play_commands(alloc, grammar, program, source, sink, steps),
+        Err(NoProgram::Refused(refusal)) => show_refusal(alloc, refusal, sink),
+        Err(NoProgram::Stopped(stop)) => Err(stop),
     }
 }
 
@@ -118,24 +121,27 @@ pub fn run<F: Shelf, S: Source, K: Sink, L: Ledger>(
     ensures bytes { RunEnds (words_of words.now) (F.files shelf.old) (S.left source.old) (K.written sink.old) (K.written sink.new) result }
 
     // What was taken: all, or through the piece whose command ended the run; and nothing where the words or the model are refused.
-    ensures taken { result ≡ Status.Done → IsTaken (S.left source.old) (S.left source.new) }
+    ensures taken { result ≡ Status.Done → OfProgram (words_of words.now) (F.files shelf.old) (IsTaken (S.left source.old) (S.left source.new)) }
     ensures untouched { LeavesSource (words_of words.now) (F.files shelf.old) result (source.new ≡ source.old) }
 
     // Where the source failed, every command that ended in what was taken is answered, and nothing else.
     ensures fault { result ≡ Status.ReadFault → ¬ Rose (F.faults shelf.old) (F.faults shelf.new)
-        → AnswersTaken (S.left source.old) (S.left source.new) (K.written sink.old) (K.written sink.new) }
+        → OfProgram (words_of words.now) (F.files shelf.old) (AnswersTaken (S.left source.old) (S.left source.new) (K.written sink.old) (K.written sink.new)) }
 
     // Each answer has its cause, in every run.
     ensures usage { HasUsageCause (words_of words.now) result }
     ensures model { IfSome (F.files shelf.old) (HasModelCause (words_of words.now) (F.faults shelf.old) (F.faults shelf.new) result) }
-    ensures length { IfSome (S.left source.old) (HasLengthCause result) }
+    ensures too_long { result ≡ Status.TooLong → OfProgram (words_of words.now) (F.files shelf.old) (IsTooLong (S.left source.old)) }
+    ensures within { result ≡ Status.Done → OfProgram (words_of words.now) (F.files shelf.old) (IsWithinLimit (S.left source.old)) }
     ensures read { result ≡ Status.ReadFault → Rose (S.faults source.old) (S.faults source.new) ⊎ Rose (F.faults shelf.old) (F.faults shelf.new) }
     ensures write { result ≡ Status.WriteFault → Rose (K.faults sink.old) (K.faults sink.new) }
 
     // Where shelf and source tell their bytes and no fault came, the status is the output's, or memory was wanting.
     ensures complete { NoneRose (S.faults source.old) (S.faults source.new) (F.faults shelf.old) (F.faults shelf.new) (K.faults sink.old) (K.faults sink.new)
         → RunIsComplete (words_of words.now) (F.files shelf.old) (S.left source.old) result }
-    ensures steps { steps.new ≡ steps.old }
+
+    // Evaluations spent at most what those of the machine spend, unless memory was wanting.
+    ensures units { (result ≡ Status.Memory) ⊎ IsWithinBudget (words_of words.now) (F.files shelf.old) (S.left source.old) steps.old steps.new }
 {
     match play_words(alloc, words, shelf, source, sink, steps) {
         Ok(status) => status,

@@ -149,15 +149,16 @@ const ORDERS: [(&str, &str); 11] = [
     ),
 ];
 
-/// Models with bodies and conditions: the rules come before what is not built.
-const BODIES: [(&str, &str); 6] = [
+/// Models with bodies and conditions: the rules of declarations come before those of names and types,
+/// which are told in the order of the text.
+const BODIES: [(&str, &str); 12] = [
     (
         "model M\nclass A operations f() : Integer = 1 end\nclass B < A operations f() : Integer begin result := 2 end end\n",
         "refused M10 at 3:24: query and statement bodies are mixed\n",
     ),
     (
         "model M\nclass A operations f() : Integer = 1 end\nclass B < A operations f() : Integer = 2 end\n",
-        "refused S0 at 1:1: form is not built yet\n",
+        "",
     ),
     (
         "model M\nclass A operations f() end\nconstraints\ncontext A::f(x : Integer) pre: true\n",
@@ -165,15 +166,36 @@ const BODIES: [(&str, &str); 6] = [
     ),
     (
         "model M\nclass A operations f() end\nconstraints\ncontext A::f() pre: true\n",
-        "refused S0 at 1:1: form is not built yet\n",
+        "",
+    ),
+    ("model M\nclass A attributes x : Integer = 1 end\n", ""),
+    (
+        "model M\nclass A attributes x : Integer = 'a' end\n",
+        "refused T5 at 2:34: value does not conform\n",
     ),
     (
-        "model M\nclass A attributes x : Integer = 1 end\n",
-        "refused S0 at 1:1: form is not built yet\n",
+        "model M\nclass A operations f() = 1 end\n",
+        "refused T12 at 2:26: result is missing or not wanted\n",
     ),
     (
-        "-- a comment\n model M\nclass A end constraints context A inv: true\n",
-        "refused S0 at 2:2: form is not built yet\n",
+        "model M\nclass A end constraints context A inv: 1\n",
+        "refused T4 at 2:40: condition is not Boolean\n",
+    ),
+    (
+        "model M\nclass A operations f() : Integer\npre: result = 1 end\n",
+        "refused N1 at 3:6: unknown name\n",
+    ),
+    (
+        "model M\nclass A operations f() : Integer\npost: result = 1 and self.oclIsNew() end\n",
+        "",
+    ),
+    (
+        "model M\nclass A operations f()\nbegin self := null end end\n",
+        "refused T11 at 3:7: cannot be assigned or called\n",
+    ),
+    (
+        "model M\nclass A operations f() : Integer\nbegin nobody.x := 1; result := 1 end\npre: 1 end\n",
+        "refused N1 at 3:7: unknown name\n",
     ),
 ];
 
@@ -250,7 +272,7 @@ const LIMITS: [Limit; 9] = [
         one: "context A inv i#: true\n",
         back: "",
         most: 200,
-        within: "refused S0 at 1:1: form is not built yet\n",
+        within: "",
         answer: "refused M16 at 204:15: too many invariants\n",
     },
     Limit {
@@ -258,7 +280,7 @@ const LIMITS: [Limit; 9] = [
         one: "pre p#: true\n",
         back: "end\n",
         most: 64,
-        within: "refused S0 at 1:1: form is not built yet\n",
+        within: "",
         answer: "refused M17 at 2:20: too many parameters or contracts\n",
     },
 ];
@@ -317,7 +339,7 @@ fn of_two_broken_rules_the_lesser_is_told(rt: HostRuntime) -> Result<(), Fail> {
 }
 
 #[test]
-fn what_is_not_built_is_told_behind_the_rules(rt: HostRuntime) -> Result<(), Fail> {
+fn bodies_and_conditions_are_judged_in_the_order_of_the_text(rt: HostRuntime) -> Result<(), Fail> {
     let alloc = rt.alloc();
     for (model, wanted) in BODIES.iter() {
         let out = answer::<Brand>(alloc, model.as_bytes(), Blank::new(1))?;

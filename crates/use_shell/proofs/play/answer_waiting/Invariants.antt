@@ -1,4 +1,4 @@
-use Rattle.std.proofs.Common.{◌≡◌, ◌++◌, length, false}
+use Rattle.std.proofs.Common.{◌≡◌, ◌+◌, ◌++◌, length, false}
 use Rattle.use_shell.specs.Output.{play}
 use Rattle.use_shell.proofs.play.answer_waiting.Given as goal
 
@@ -10,7 +10,7 @@ invariant-cuts g l = record {
   bytes : l.out.items ++ (play l.session.machine l.cutter.waiting).bytes ≡ l.fn.out.items ++ (play l.fn.session.machine l.fn.cutter.waiting).bytes;
   ends : (play l.session.machine l.cutter.waiting).over ≡ (play l.fn.session.machine l.fn.cutter.waiting).over;
   machine : (play l.session.machine l.cutter.waiting).machine ≡ (play l.fn.session.machine l.fn.cutter.waiting).machine;
-  steps : l.steps ≡ l.fn.steps;
+  units : l.steps + (play l.session.machine l.cutter.waiting).units ≡ l.fn.steps + (play l.fn.session.machine l.fn.cutter.waiting).units;
 }
 
 abbrev pub decreases-cuts : goal.decreases-cuts

@@ -1,75 +1,15 @@
-use Rattle.std.proofs.Common.{◌≡◌, arith, rules, Err, IsErrOf, inl, inr, refl, ◌∙◌}
-use Rattle.std.proofs.lemmas.List.{length-take}
-use Rattle.use_shell.specs.declared.stop.Stop.TheVariants.{Read}
-use Rattle.use_shell.proofs.StreamLemmas.{started, cut_off, whole, stopped_at_end, ended_in, past, stopped_in, goes_on, cut_short, stopped_short}
+use Rattle.std.proofs.Common.{◌≡◌, ap, subst, sym, ◌∙◌}
+use Rattle.ocl_core.specs.declared.program.ProgramParts.{ProgramParts}
+use Rattle.use_session.specs.Machine.{start}
+use Rattle.use_shell.specs.Plays.{Streams}
 use Rattle.use_shell.proofs.play.play_source.Goals as goal
 
-pub pieces-init : goal.pieces-init
-pieces-init g c = record {
-  at = started c.new-session.result c.new-cutter.result (g.S.Source.left c.args.source.now) (g.K.Sink.written c.args.sink.now) c.new-cutter.ensures.stands
-      c.new-session.ensures.machine;
-  within = omega arith;
-  ready = record { over = c.new-session.ensures.over; waiting = c.new-cutter.ensures.waiting };
-  few = search rules;
-  source_later = omega arith;
-  sink_later = omega arith;
-  steps = refl;
-}
+pub play_pieces-requires-clause-machine : goal.play_pieces-requires-clause-machine
+play_pieces-requires-clause-machine g c =
+    c.new-session.ensures.machine ∙ ap start (sym (ap (λ m. m.program) c.new-session.ensures.machine))
 
-pub returns-in_err-count-clause-played : goal.returns-in_err-count-clause-played
-returns-in_err-count-clause-played g c =
-    let is : c.from_residual.result ≡ Err Read = search rules in
-    cut_short _ _ _ _ _ c.from_residual.result is (cut_off c.args.limit c.pieces.taken c.pieces.session c.pieces.cutter _ _ _ _ c.pieces.invariant.at
-    c.pieces.invariant.within _ _ c.in_err-count.ensures.bytes refl)
-
-pub returns-in_err-play_last-clause-played : goal.returns-in_err-play_last-clause-played
-returns-in_err-play_last-clause-played g c =
-    let other : ¬ IsErrOf c.from_residual-in_err-play_last.result Read = search rules in
-    let taken = rw c.if-count-eq0.true at c.in_ok-count.ensures.bytes.0 in
-    let end = c.in_ok-count.ensures.bytes.1 c.if-count-eq0.true (search rules) in
-    stopped_short _ _ _ _ _ c.from_residual-in_err-play_last.result c.from_residual-in_err-play_last.ensures.0 other
-    (stopped_at_end c.args.limit c.pieces.taken c.pieces.session c.pieces.cutter _ _ _ _ c.pieces.invariant.at c.pieces.invariant.within _ _ taken end
-    c.in_err-play_last.ensures.err)
-
-pub returns-then-count-eq0-clause-played : goal.returns-then-count-eq0-clause-played
-returns-then-count-eq0-clause-played g c =
-    let taken = rw c.if-count-eq0.true at c.in_ok-count.ensures.bytes.0 in
-    let end = c.in_ok-count.ensures.bytes.1 c.if-count-eq0.true (search rules) in
-    inl (whole c.args.limit c.pieces.taken c.pieces.session c.pieces.cutter _ _ _ _ c.pieces.invariant.at c.pieces.invariant.within _ _ taken end
-    c.in_ok-play_last.ensures.ok)
-
-pub returns-in_err-play_piece-clause-played : goal.returns-in_err-play_piece-clause-played
-returns-in_err-play_piece-clause-played g c =
-    let other : ¬ IsErrOf c.from_residual-in_err-play_piece.result Read = search rules in
-    stopped_short _ _ _ _ _ c.from_residual-in_err-play_piece.result c.from_residual-in_err-play_piece.ensures.0 other
-    (stopped_in c.args.limit c.pieces.taken c.pieces.session c.pieces.cutter _ _ _ _ c.pieces.invariant.at c.pieces.invariant.within c.take_piece.new.piece
-    c.in_ok-count.count c.min-within.result _ _ c.in_ok-count.ensures.bytes.0 c.in_ok-count.ensures.bound.0 c.min-within.ensures c.new-cutter.ensures.stays
-    c.in_err-play_piece.ensures.err)
-
-pub returns-then-branch-clause-played : goal.returns-then-branch-clause-played
-returns-then-branch-clause-played g c =
-    inr (ended_in c.args.limit c.pieces.taken c.pieces.session c.pieces.cutter _ _ _ _ c.pieces.invariant.at c.pieces.invariant.within c.take_piece.new.piece
-    c.in_ok-count.count c.min-within.result _ _ c.in_ok-count.ensures.bytes.0 c.in_ok-count.ensures.bound.0 c.min-within.ensures
-    c.play_piece.new.session.machine c.play_piece.new.cutter (rw c.if-branch.true at c.in_ok-play_piece.ensures.ok))
-
-pub returns-then-within-count-clause-played : goal.returns-then-within-count-clause-played
-returns-then-within-count-clause-played g c =
-    past c.args.limit c.pieces.taken c.pieces.session c.pieces.cutter _ _ _ _ c.pieces.invariant.at c.pieces.invariant.within c.take_piece.new.piece
-    c.in_ok-count.count c.min-within.result _ _ c.in_ok-count.ensures.bytes.0 c.in_ok-count.ensures.bound.0 c.min-within.ensures
-    c.play_piece.new.session.machine c.play_piece.new.cutter (rw c.if-branch.false at c.in_ok-play_piece.ensures.ok) c.if-within-count.true
-
-pub pieces-preserved : goal.pieces-preserved
-pieces-preserved g c =
-    let so_far = c.pieces.invariant in
-    let ready = c.in_ok-play_piece.ensures.ready c.if-branch.false in
-    record {
-      at = goes_on c.args.limit c.pieces.taken c.pieces.session c.pieces.cutter _ _ _ _ so_far.at so_far.within c.take_piece.new.piece c.in_ok-count.count
-          c.min-within.result _ _ c.in_ok-count.ensures.bytes.0 c.in_ok-count.ensures.bound.0 c.min-within.ensures c.play_piece.new.session
-          c.play_piece.new.cutter (rw c.if-branch.false at c.in_ok-play_piece.ensures.ok) c.if-within-count.false;
-      within = omega (arith, c.min-within.ensures, c.if-within-count.false, so_far.within);
-      ready = ready;
-      few = omega (arith, c.in_ok-play_piece.ensures.count, so_far.few, length-take c.min-within.result c.take_piece.new.piece, c.min-within.ensures);
-      source_later = omega (arith, so_far.source_later, c.take_piece.ensures.cause.later);
-      sink_later = omega (arith, so_far.sink_later, c.in_ok-play_piece.ensures.cause.later);
-      steps = c.in_ok-play_piece.ensures.steps ∙ so_far.steps;
-    }
+pub returns-clause-played : goal.returns-clause-played
+returns-clause-played g c =
+    subst (λ (p : ProgramParts). Streams p c.args.limit (g.S.Source.left c.args.source.now) (g.S.Source.left c.play_pieces.new.source)
+    (g.K.Sink.written c.args.sink.now) (g.K.Sink.written c.play_pieces.new.sink) c.args.steps.now c.play_pieces.new.steps c.play_pieces.result)
+    (ap (λ m. m.program) c.new-session.ensures.machine) c.play_pieces.ensures.played
