@@ -2,3 +2,4 @@ pub mod Back
 pub mod Agreeing
 pub mod Made
 pub mod Left
+pub mod Adding

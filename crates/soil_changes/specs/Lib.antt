@@ -5,3 +5,4 @@ pub mod Creating
 pub mod Storing
 pub mod Joining
 pub mod Destroying
+pub mod Adding

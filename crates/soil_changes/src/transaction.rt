@@ -94,6 +94,13 @@ impl Transaction {
         self.changes.as_slice()
     }
 
+    /// A law: the changes lead from the state in which it began to the one now, and each fits.
+    pub fn changes_lead(&self)
+        ensures { Lead self.now.layout self.now.start self.now.changes self.now.state }
+    {
+        self.store.state_is_valid();
+    }
+
     /// Carries a change out that fits and weighs no more than is left.
     fn carry_out(&mut self, change: Change, weight: u32) -> Result<(), AllocError>
         requires fits { Fits self.old.layout self.old.state change }

@@ -91,3 +91,26 @@ fn a_new_command_drops_what_could_be_carried_out_again(rt: HostRuntime) -> Resul
     assert_eq!(rt; redone(&mut history), None);
     Ok(())
 }
+
+/// A history of 1,001 commands, of which the newest 1,000 are taken back.
+fn all_taken_back(alloc: Global) -> Result<History, AllocError> {
+    let mut history = History::new(alloc, 1_000)?;
+    'keep: for object in 1..1_002u32 {
+        kept(alloc, &mut history, object)?;
+    }
+    'undo: for _ in 0..1_000u32 {
+        undone(&mut history);
+    }
+    Ok(history)
+}
+
+#[test]
+fn what_was_taken_back_is_carried_out_again_in_order(rt: HostRuntime) -> Result<(), Fail> {
+    let mut history = all_taken_back(rt.alloc())?;
+    'redo: for object in 2..1_002u32 {
+        assert_eq!(rt; redone(&mut history), Some(object));
+    }
+    assert_eq!(rt; redone(&mut history), None);
+    assert_eq!(rt; undone(&mut history), Some(1_001));
+    Ok(())
+}

@@ -1,0 +1,15 @@
+pub mod Names
+pub mod Fresh
+pub mod Settled
+pub mod Staying
+pub mod Places
+pub mod Then
+pub mod Bound
+pub mod Sound
+pub mod Checked
+pub mod Binding
+pub mod Begun
+pub mod Ended
+pub mod Layers
+pub mod Listed
+pub mod Rounds

@@ -1,0 +1,14 @@
+pub mod Faults
+pub mod Machine
+pub mod Found
+pub mod Kept
+pub mod Refreshing
+pub mod Acted
+pub mod Bodies
+pub mod Values
+pub mod Targets
+pub mod Statements
+pub mod Parts
+pub mod Exec
+pub mod Ending
+pub mod Typed

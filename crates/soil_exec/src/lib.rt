@@ -1,0 +1,22 @@
+//! Statements of SOIL, carried out whole or not at all.
+#![tactic(auto)]
+
+mod acts;
+mod block;
+mod evaluators;
+mod execution;
+mod fault;
+mod machine;
+mod setting;
+mod shell;
+mod targets;
+mod values;
+mod walk;
+
+use evaluators::Evaluator;
+pub use execution::{environment, execute};
+pub use fault::ExecFault;
+use machine::Machine;
+use setting::Setting;
+use shell::Shell;
+use walk::Walk;

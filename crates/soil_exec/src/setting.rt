@@ -1,0 +1,11 @@
+use ocl_program::Program;
+
+/// What is the same for all statements of a block.
+#[derive(Drop)]
+pub(crate) struct Setting<'a, V> {
+    pub(crate) program: &'a Program,
+    /// What evaluates expressions.
+    pub(crate) evaluator: &'a V,
+    /// How many levels may still be entered.
+    pub(crate) levels: u32,
+}
