@@ -18,6 +18,8 @@ use use_syntax::{Parsed, grammar, read_command, read_model};
 
 mod models;
 mod rows;
+mod scopes;
+mod shapes;
 mod shown;
 
 use models::{EMPLOYEES, WORK};
