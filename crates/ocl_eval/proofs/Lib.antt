@@ -4,3 +4,4 @@ mod Literals
 pub mod Congruence
 pub mod Local
 pub mod More
+pub mod Spending

@@ -1,4 +1,4 @@
-ghost use Rattle.std.specs.Prelude.{◌≡◌, ◌+◌, ℕ, List, Some};
+ghost use Rattle.std.specs.Prelude.{◌≡◌, ◌+◌, ◌≤◌, ℕ, List, Some};
 ghost use Rattle.ocl_values.specs.declared.value.Value.{Value};
 ghost use Rattle.object_state.specs.declared.cell.Cell.{Cell};
 ghost use Rattle.object_state.specs.declared.cell.Look.{Look};
@@ -7,7 +7,7 @@ ghost use Rattle.ocl_core.specs.declared.operators.When.{When};
 ghost use Rattle.ocl_core.specs.declared.program.ProgramParts.{ProgramParts};
 ghost use Rattle.ocl_eval.specs.declared.meter.Meter.{Meter};
 ghost use Rattle.ocl_eval.specs.Agreeing.{AgreeOn, with_more};
-ghost use Rattle.ocl_eval.specs.Evaluation.{eval_from, ev};
+ghost use Rattle.ocl_eval.specs.Evaluation.{eval, eval_from, ev, max_units};
 ghost use Rattle.ocl_eval.specs.Evaluations.{Outcome};
 ghost use Rattle.ocl_eval.specs.Scenes.{scene_of};
 
@@ -25,4 +25,9 @@ pub fn what_is_done_stays_done()
     ensures { (p : ProgramParts) (now pre : Cell → Look) (levels more k : ℕ) (at : When) (env : List Value) (e : Expr) (m left : Meter) (v : Value)
         → ◌≡◌ {A = Outcome Value} (ev (scene_of p now pre) levels at env e m) (Some v, left)
         → ◌≡◌ {A = Outcome Value} (ev (scene_of p now pre) (more + levels) at env e (with_more k m)) (Some v, with_more k left) }
+{}
+
+/// A law: an evaluation leaves no more units than it was given.
+pub fn no_units_are_gained()
+    ensures { (p : ProgramParts) (now pre : Cell → Look) (env : List Value) (e : Expr) → (eval (scene_of p now pre) env e).1.fuel ≤ max_units }
 {}

@@ -25,7 +25,7 @@ mod walks;
 
 pub use env::Env;
 pub use evaluation::{evaluate, evaluate_in};
-pub use laws::{outcomes_depend_on_what_is_read, what_is_done_stays_done};
+pub use laws::{no_units_are_gained, outcomes_depend_on_what_is_read, what_is_done_stays_done};
 use meter::Meter;
 pub use outcome::Outcome;
 use setting::Setting;

@@ -15,23 +15,28 @@ use Rattle.soil_exec.specs.Exec.{Tells}
 use Rattle.soil_exec.specs.Kept.{Gives}
 use Rattle.soil_exec.specs.Machine.{Machine}
 use Rattle.soil_exec.specs.Typed.{IsTyped}
+use Rattle.soil_exec.proofs.Shifted.{all_later}
 
-module _ (d : Diagram) (outcome : Outcome Machine Refusal (Unit {0})) (adds : Adds (begun d) outcome.1.progress) (after : Machine) (d' : Diagram) where
+module _ (d : Diagram) (outcome : Outcome Machine Refusal (Unit {0})) (before : ℕ) (adds : Adds (begun d) outcome.1.progress) (after : Machine) (d' : Diagram) where
+  -- what was carried out gives this
+  abbrev Comes : Result (Unit {0}) ExecFault → Type 0
+  Comes ended = Gives (all_later before outcome) ended after
+
   -- the first state is the one in which it began
   back : after.progress ≡ outcome.1.progress → ◌≡◌ {A = Diagram} (record { layout = after.progress.layout; state = after.progress.start }) d
   back e = (λ i. record { layout = (e i).layout; state = (e i).start }) ∙ (λ i. record { layout = adds.layout i; state = adds.start i })
 
-  pub told : (ended : Result (Unit {0}) ExecFault) (r : Result (List Change) ExecFault) → Gives outcome ended after → Ends after.progress ended d' r
-      → Tells d outcome r d' after.steps
+  pub told : (ended : Result (Unit {0}) ExecFault) (r : Result (List Change) ExecFault) → Comes ended → Ends after.progress ended d' r
+      → Tells d outcome before r d' after.steps
   told (Ok u) r g e =
-      subst (λ (r : Result (List Change) ExecFault). Tells d outcome r d' after.steps) (sym e.told)
+      subst (λ (r : Result (List Change) ExecFault). Tells d outcome before r d' after.steps) (sym e.told)
       (record {
         done = ap (λ o. o.0) g;
         state = e.state ∙ ap (λ (o : Outcome Machine Refusal (Unit {0})). diagram_of o.1.progress) (sym g);
         changes = ap (λ (o : Outcome Machine Refusal (Unit {0})). o.1.progress.changes) (sym g);
         steps = ap (λ (o : Outcome Machine Refusal (Unit {0})). o.1.steps) (sym g);
       })
-  told (Err Memory) r g e = subst (λ (r : Result (List Change) ExecFault). Tells d outcome r d' after.steps) (sym e) tt
+  told (Err Memory) r g e = subst (λ (r : Result (List Change) ExecFault). Tells d outcome before r d' after.steps) (sym e) tt
   told (Err (Refused x)) (Ok changes) g e = absurd e
   told (Err (Refused x)) (Err Memory) g e = tt
   told (Err (Refused x)) (Err (Refused y)) g e =
@@ -41,7 +46,7 @@ module _ (d : Diagram) (outcome : Outcome Machine Refusal (Unit {0})) (adds : Ad
         steps = ap (λ (o : Outcome Machine Refusal (Unit {0})). o.1.steps) (sym g);
       }
 
-  pub led : (ended : Result (Unit {0}) ExecFault) (r : Result (List Change) ExecFault) → Gives outcome ended after → Ends after.progress ended d' r
+  pub led : (ended : Result (Unit {0}) ExecFault) (r : Result (List Change) ExecFault) → Comes ended → Ends after.progress ended d' r
       → IfOk r (λ changes. Lead d.layout d.state changes d'.state)
   led (Ok u) r g e =
       let start = back (ap (λ (o : Outcome Machine Refusal (Unit {0})). o.1.progress) (sym g)) in
@@ -51,8 +56,14 @@ module _ (d : Diagram) (outcome : Outcome Machine Refusal (Unit {0})) (adds : Ad
   led (Err (Refused x)) (Ok changes) g e = absurd e
   led (Err (Refused x)) (Err f) g e = tt
 
+  -- the layout stays
+  pub laid_out : (r : Result (List Change) ExecFault) (n : ℕ) → Tells d outcome before r d' n → OnOk r (d'.layout ≡ d.layout)
+  laid_out (Ok changes) n t = ap (λ (z : Diagram). z.layout) t.state ∙ adds.layout
+  laid_out (Err Memory) n t = tt
+  laid_out (Err (Refused x)) n t = tt
+
   -- the variables keep types of a model where those of the execution do
-  pub typed : (m : ObjectModel) (r : Result (List Change) ExecFault) (n : ℕ) → Tells d outcome r d' n → (IsTyped m d.state → IsTyped m outcome.1.progress.state)
+  pub typed : (m : ObjectModel) (r : Result (List Change) ExecFault) (n : ℕ) → Tells d outcome before r d' n → (IsTyped m d.state → IsTyped m outcome.1.progress.state)
       → OnOk r (IsTyped m d.state → IsTyped m d'.state)
   typed m (Ok changes) n t keeps = λ h. subst (λ (z : Diagram). IsTyped m z.state) (sym t.state) (keeps h)
   typed m (Err Memory) n t keeps = tt

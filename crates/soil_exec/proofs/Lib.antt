@@ -9,6 +9,7 @@ pub mod Sound
 pub mod Checked
 pub mod Binding
 pub mod Begun
+pub mod Shifted
 pub mod Ended
 pub mod Layers
 pub mod Listed

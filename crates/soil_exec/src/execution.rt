@@ -190,7 +190,8 @@ pub fn execute<L: Ledger>(
     requires bound { All IsWellMade bound.items }
     requires body { IsBodyOf program.now.model body.now }
     requires of_model { store.old.layout ≡ layout_of program.now.model }
-    ensures told { Tells store.old (exec program.now body.now shell bound.items store.old steps.old) result store.new steps.new }
+    ensures told { Tells store.old (exec program.now body.now shell bound.items store.old) steps.old result store.new steps.new }
+    ensures layout { OnOk result (store.new.layout ≡ store.old.layout) }
     ensures lead { IfOk result (λ changes. Lead store.old.layout store.old.state changes store.new.state) }
     ensures typed { OnOk result (IsTyped program.now.model store.old.state → IsTyped program.now.model store.new.state) }
 {
