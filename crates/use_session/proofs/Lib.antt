@@ -1,1 +1,10 @@
-pub mod SumLemmas
+pub mod Called
+pub mod Scoping
+pub mod Unlinked
+pub mod Stamps
+pub mod Led
+pub mod Emptied
+pub mod Keeping
+pub mod Told
+pub mod Evaluated
+pub mod Executed

@@ -1,5 +1,11 @@
 pub mod Commands
+pub mod Readings
+pub mod Shell
+pub mod Unbuilt
+pub mod Running
+pub mod Moments
+pub mod Resetting
 pub mod Answers
 pub mod Machine
+pub mod Kept
 pub mod Answering
-pub mod Sums

@@ -1,10 +1,19 @@
-//! One command at a time: a session reads a command of the stream, carries it out and answers it.
+//! One command at a time: a session reads a command of the stream, checks it, carries it out and
+//! answers it.
 #![tactic(auto)]
 
-mod answer;
-mod command;
+mod answers;
 mod file_word;
+mod machine;
+mod moments;
+mod reading;
+mod resetting;
 mod session;
-mod sum;
+mod shell;
+mod starts;
+mod unbuilt;
 
+use machine::Machine;
 pub use session::{Session, SessionFault, Turn};
+use shell::StoreScope;
+use starts::Start;

@@ -1,19 +1,27 @@
-ghost use Rattle.std.specs.Prelude.{◌≡◌, ◌+◌, ◌++◌, ◌↔◌, IsTrue, IsErrOf, IfOk, OnOk, is_err, false};
+ghost use Rattle.std.specs.Prelude.{◌≡◌, ◌++◌, ◌↔◌, ◌+◌, All, IsTrue, IsErrOf, IfOk, OnOk, false, is_err, length};
 ghost use Rattle.use_text.specs.Cuts.{IsCommand};
 ghost use Rattle.use_text.specs.Limits.{max_lines};
+ghost use Rattle.use_text.specs.Tokens.{IsWithin};
+ghost use Rattle.grammar_core.specs.Arena.{root_tree};
 ghost use Rattle.use_syntax.specs.Language.{language};
-ghost use Rattle.use_session.specs.Machine.{Machine, start, step};
+ghost use Rattle.use_syntax.specs.Reading.{parsed};
+ghost use Rattle.use_session.specs.Answering.{Answers};
+ghost use Rattle.use_session.specs.Kept.{IsKept, machine_of};
+ghost use Rattle.use_session.specs.Machine.{answered_reading, counts, start, step};
 
-use crate::answer::carry_out;
-use crate::command::read_cut;
+use crate::Machine;
+use crate::answers::refuse;
+use crate::reading::{Reading, read_cut};
+use crate::starts::start_of;
 use grammar_core::Grammar;
 use ocl_program::Program;
+use soil_check::TypeFault;
 use std::alloc::{AllocError, Global};
 use std::marker::Model;
 use std::sync::ledger::Ledger;
 use thiserror::Error;
 use use_steps::Steps;
-use use_syntax::Reader;
+use use_syntax::{Parsed, Reader, TokenTree};
 use use_text::{Code, Cut};
 
 /// How a command ended.
@@ -38,15 +46,61 @@ pub enum SessionFault {
 /// A machine that answers one command after another. Once a command has wanted memory, it is over.
 #[derive(Drop)]
 pub struct Session {
-    alloc: Global,
     grammar: Grammar,
     reader: Reader,
-    program: Program,
+    machine: Machine,
     over: bool,
 }
 
+/// Checks a command that was read, carries it out and answers it.
+fn answer_parsed<L: Ledger>(
+    machine: &mut Machine,
+    reader: &mut Reader,
+    line: u32,
+    read: Parsed,
+    out: &mut Vec<u8>,
+    steps: &mut Steps<L>,
+) -> Result<Turn, AllocError>
+    requires text { All (IsWithin (length read.text)) read.tokens }
+    requires kept { IsKept machine.old }
+    ensures { Answers (answered_reading (machine_of machine.old) line read.text (parsed read.tokens (root_tree read.tree))) out.old.items steps.old
+        result machine.new out.new.items steps.new }
+{
+    let at = start_of(line, read.tokens.as_slice());
+    let checked = machine.check(&read);
+    let Parsed { tree, tokens, .. } = read;
+    reader.take_back(TokenTree { tree, tokens });
+    match checked {
+        Ok(command) => machine.answer(at, command, out, steps),
+        Err(TypeFault::Refused(refusal)) => refuse(refusal, out),
+        Err(TypeFault::Memory) => Err(AllocError),
+    }
+}
+
+/// Reads a command, and answers it.
+fn answer<L: Ledger>(
+    machine: &mut Machine,
+    reader: &mut Reader,
+    grammar: &Grammar,
+    cut: &Cut,
+    out: &mut Vec<u8>,
+    steps: &mut Steps<L>,
+) -> Result<Turn, AllocError>
+    requires table { grammar.now ≡ language }
+    requires command { IsCommand max_lines cut.now }
+    requires kept { IsKept machine.old }
+    ensures { Answers (step (machine_of machine.old) cut.now) out.old.items steps.old result machine.new out.new.items steps.new }
+{
+    match read_cut(machine.alloc, reader, grammar, cut)? {
+        Reading::Refused(refusal) => refuse(refusal, out),
+        Reading::Parsed(parsed) => {
+            answer_parsed(machine, reader, cut.first_line, parsed, out, steps)
+        }
+    }
+}
+
 impl Model for Session {
-    ghost use Rattle.std.specs.Prelude.{◌≡◌};
+    ghost use Rattle.std.specs.Prelude.{◌≡◌, false};
     ghost use Rattle.std.specs.Coded.{codes};
     ghost use Rattle.class_model.specs.contracts.types.OclType as types;
     ghost use Rattle.ocl_values.specs.contracts.value.Value as values;
@@ -54,36 +108,42 @@ impl Model for Session {
     ghost use Rattle.ocl_core.specs.contracts.statement.Stmt as statements;
     ghost use Rattle.use_syntax.specs.Language.{language};
     ghost use Rattle.use_session.specs.Answering.{Standing};
-    ghost use Rattle.use_session.specs.Machine.{start};
+    ghost use Rattle.use_session.specs.Kept.{IsKept, machine_of};
 
     ghost Value = { Standing };
 
     ghost coded = { Prim.hlevel (codes, types.the_row.coded, values.the_row.coded, expressions.the_row.coded, statements.the_row.coded) };
 
-    ghost view = { λ s. record { over = s.over; machine = start s.program } };
+    ghost view = { λ s. record { over = s.over; machine = machine_of s.machine } };
 
-    ghost invariant = { λ s. s.grammar ≡ language };
+    ghost invariant = { λ s. (s.grammar ≡ language) × (s.over ≡ false → IsKept s.machine) };
 }
 
 impl Session {
-    /// A session of a program before its first command. It reads commands by the grammar of the language.
-    pub fn new(alloc: Global, grammar: Grammar, program: Program) -> Session
+    /// A session before its first command. It reads commands by the grammar of the language, and
+    /// checks them against a program.
+    pub fn new(alloc: Global, grammar: Grammar, program: Program) -> Result<Session, AllocError>
         requires { grammar ≡ language }
-        ensures over { result.over ≡ false }
-        ensures machine { result.machine ≡ start program }
+        ensures over { IfOk result (λ s. s.over ≡ false) }
+        ensures machine { IfOk result (λ s. s.machine ≡ start program) }
     {
-        Session {
-            alloc,
+        Ok(Session {
             grammar,
             reader: Reader::new(alloc),
-            program,
+            machine: Machine::new(alloc, program)?,
             over: false,
-        }
+        })
+    }
+
+    /// How many objects are live, and how many links there are.
+    pub fn counts(&self) -> (u32, u32)
+        ensures { result ≡ counts self.now.machine }
+    {
+        self.machine.counts()
     }
 
     /// Carries out a command and appends its answer to `out`. Each unit that an evaluation spends is
-    /// counted: none, in the forms that are built so far. After want of memory, `out` is in no stated
-    /// condition.
+    /// counted. After want of memory, `out` is in no stated condition.
     pub fn command<L: Ledger>(
         &mut self,
         cut: &Cut,
@@ -104,7 +164,15 @@ impl Session {
         if self.over {
             return Err(SessionFault::Over);
         }
-        match answer(self.alloc, &mut self.reader, &self.grammar, cut, out) {
+        let answered = answer(
+            &mut self.machine,
+            &mut self.reader,
+            &self.grammar,
+            cut,
+            out,
+            steps,
+        );
+        match answered {
             Ok(turn) => Ok(turn),
             Err(_) => {
                 self.over = true;
@@ -112,20 +180,4 @@ impl Session {
             }
         }
     }
-}
-
-fn answer(
-    alloc: Global,
-    reader: &mut Reader,
-    grammar: &Grammar,
-    cut: &Cut,
-    out: &mut Vec<u8>,
-) -> Result<Turn, AllocError>
-    requires table { grammar.now ≡ language }
-    requires command { IsCommand max_lines cut.now }
-    ensures bytes { (m : Machine) → OnOk result (out.new.items ≡ out.old.items ++ (step m cut.now).bytes) }
-    ensures turn { (m : Machine) → IfOk result (λ turn. turn ≡ (step m cut.now).turn) }
-{
-    let command = read_cut(alloc, reader, grammar, cut)?;
-    carry_out(alloc, &command, out)
 }

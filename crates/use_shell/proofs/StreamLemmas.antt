@@ -15,7 +15,7 @@ use Rattle.use_shell.specs.declared.stop.Stop.TheVariants.{Read, Write, Memory a
 use Rattle.use_shell.specs.Output.{Ending, after, play, play_within, of_input_within}
 use Rattle.use_shell.specs.Endings.{AppendsFront}
 use Rattle.use_shell.specs.Plays.{CountsFront, CountsLast, FrontOfLast, HasPlayed, IsCutOff, IsEnded, IsPast, IsStopped, IsStreaming, IsUnwritten, IsWhole, PlaysFront, PlaysLast, PlaysOn, Streams}
-use Rattle.use_shell.proofs.MoveLemmas.{appends_then, appends_nothing, front_after, consumes_then, consumes_kept, consumes_nothing}
+use Rattle.use_shell.proofs.MoveLemmas.{appends_then, appends_nothing, front_after, front_of_none, consumes_then, consumes_kept, consumes_nothing}
 use Rattle.use_shell.proofs.PlayLemmas.{play_on, play_units}
 use Rattle.use_shell.proofs.LimitLemmas.{fronted, whole_ending}
 
@@ -284,3 +284,9 @@ module _ (p : ProgramParts) where
   stopped_short limit left now old new u w (Err Read) err other h k = absurd (other refl)
   stopped_short limit left now old new u w (Err Write) err other h k = k refl
   stopped_short limit left now old new u w (Err Wanting) err other h k = h
+
+  -- a run that did not begin, since memory was wanting
+  pub not_begun : (limit : ℕ) (left old : Option (List ℕ)) (u : ℕ) (r : Result Status Stop) → r ≡ Err Wanting → Streams p limit left left old old u u r
+  not_begun limit left old u r is =
+      subst (Streams p limit left left old old u u) (sym is)
+      (record { taken = []; from = consumes_nothing left; written = λ rest is. front_of_none old (of_input_within p limit rest).bytes })

@@ -188,7 +188,7 @@ pub fn play_source<S: Source, K: Sink, L: Ledger>(
     ensures read { IsErrOf result Stop.Read → Rose (S.faults source.old) (S.faults source.new) }
     ensures write { IsErrOf result Stop.Write → Rose (K.faults sink.old) (K.faults sink.new) }
 {
-    let mut session = Session::new(alloc, grammar, program);
     let mut cutter = Cutter::new(alloc);
+    let mut session = Session::new(alloc, grammar, program)?;
     play_pieces(alloc, limit, &mut session, &mut cutter, source, sink, steps)
 }

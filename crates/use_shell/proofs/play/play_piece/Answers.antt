@@ -1,4 +1,4 @@
-use Rattle.std.proofs.Common.{◌≡◌, ◌+◌, rules}
+use Rattle.std.proofs.Common.{◌≡◌, rules}
 use Rattle.use_shell.specs.Output.{play}
 use Rattle.use_shell.proofs.MoveLemmas.{on_err}
 use Rattle.use_shell.proofs.PlayLemmas.{piece_front, piece_units}

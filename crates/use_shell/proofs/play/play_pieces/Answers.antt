@@ -1,4 +1,4 @@
-use Rattle.std.proofs.Common.{◌≡◌, arith, rules, Err, IsErrOf, inl, inr, refl, ◌∙◌}
+use Rattle.std.proofs.Common.{◌≡◌, arith, rules, Err, IsErrOf, inl, inr, refl}
 use Rattle.std.proofs.lemmas.List.{length-take}
 use Rattle.use_shell.specs.declared.stop.Stop.TheVariants.{Read}
 use Rattle.use_shell.proofs.StreamLemmas.{started, cut_off, whole, stopped_at_end, unwritten_at_end, ended_in, past, stopped_in, unwritten_in, goes_on, cut_short, stopped_short}

@@ -1,4 +1,4 @@
-use Rattle.std.proofs.Common.{◌≡◌, ◌≤◌, ◌-◌}
+use Rattle.std.proofs.Common.{◌≤◌, ◌-◌}
 use Rattle.use_shell.specs.Plays.{IsReady, IsStreaming}
 use Rattle.use_shell.proofs.play.play_pieces.Given as goal
 

@@ -1,0 +1,13 @@
+use Rattle.std.proofs.Common.{◌≡◌, ◌≤◌, length, ap, subst, ◌∙◌, arith}
+use Rattle.std.proofs.lemmas.List.{length-map}
+use Rattle.class_model.specs.declared.object_model.ObjectModel.{ObjectModel}
+use Rattle.object_state.specs.declared.layout.Layout.{Layout}
+use Rattle.object_state.specs.Layouts.{assoc_layout}
+use Rattle.use_session.proofs.machine.Machine.reset.Goals as goal
+
+pub clear-requires : goal.clear-requires
+clear-requires c =
+    let k = c.args.self.now in
+    let long : length k.store.layout.assocs ≡ length k.program.model.assocs = ap (λ (z : Layout). length z.assocs) c.requires.layout ∙ length-map k.program.model.assocs assoc_layout in
+    let few : length k.program.model.assocs ≤ 200 = subst (λ (m : ObjectModel). length m.assocs ≤ 200) c.model.ensures c.has_numbers_in_range.ensures.small.assocs in
+    omega arith

@@ -1,0 +1,14 @@
+use Rattle.std.proofs.Common.{◌≡◌, ◌++◌, length, reverse}
+use Rattle.soil_changes.specs.Progress.{CanBeTakenBack, taken_back}
+use Rattle.use_session.proofs.moments.take_back.Given as goal
+
+abbrev pub invariant-back : goal.invariant-back
+invariant-back l = record {
+  layout : l.store.layout ≡ l.fn.store.layout;
+  start : taken_back l.store.layout l.left.items l.store.state ≡ taken_back l.fn.store.layout l.fn.changes l.fn.store.state;
+  back : CanBeTakenBack l.store.layout l.left.items l.store.state;
+  same : l.left.items ++ reverse l.again.items ≡ l.fn.changes;
+}
+
+abbrev pub decreases-back : goal.decreases-back
+decreases-back l = length l.left.items
