@@ -1,4 +1,4 @@
-ghost use Rattle.std.specs.Prelude.{◌≡◌, ◌<◌, ◌≤◌, IfOk, IfSome, false, length};
+ghost use Rattle.std.specs.Prelude.{◌≡◌, ◌<◌, ◌≤◌, IfOk, length};
 ghost use Rattle.use_text.specs.Limits.{max_command};
 ghost use Rattle.use_syntax.specs.Language.{language};
 
@@ -9,7 +9,7 @@ use std::alloc::Global;
 use std::marker::Brand;
 use std::sync::ledger::{Blank, Ledger};
 use std::test::Fail;
-use use_session::*;
+use use_session::{Session, Turn};
 use use_steps::Steps;
 use use_syntax::{grammar, read_model};
 use use_text::{Bytes, Code, Cut, Fate};
@@ -32,7 +32,35 @@ fn program(alloc: Global, g: &Grammar) -> Result<Option<Program>, Fail>
     }
 }
 
-// What a new session writes for a command whose first line is 7, and how the command ends.
+fn new_session(alloc: Global) -> Result<Option<Session>, Fail> {
+    let g = language(alloc)?;
+    match program(alloc, &g)? {
+        None => Ok(None),
+        Some(program) => Ok(Some(Session::new(alloc, g, program)?)),
+    }
+}
+
+// What a session writes for a command whose first line is 7, and how the command ends.
+fn answer<L: Ledger>(
+    alloc: Global,
+    session: &mut Session,
+    text: &[u8],
+    fate: Fate,
+    steps: &mut Steps<L>,
+) -> Result<(Vec<u8>, Turn), Fail>
+    requires { length text.now ≤ max_command }
+{
+    let mut out = Vec::new(alloc);
+    let cut = Cut {
+        text: Bytes::from_slice(alloc, text)?,
+        first_line: 7,
+        fate,
+    };
+    let turn = session.command(&cut, &mut out, steps)?;
+    Ok((out, turn))
+}
+
+// The same of a new session.
 fn answered<L: Ledger>(
     alloc: Global,
     text: &[u8],
@@ -45,19 +73,10 @@ fn answered<L: Ledger>(
     requires short { length text.now ≤ max_command }
 {
     let mut steps = Steps::<L>::new(blank);
-    let mut out = Vec::new(alloc);
-    let g = language(alloc)?;
-    let Some(program) = program(alloc, &g)? else {
-        return Ok((out, Turn::Refused(Code::F1)));
-    };
-    let mut session = Session::new(alloc, g, program);
-    let cut = Cut {
-        text: Bytes::from_slice(alloc, text)?,
-        first_line: 7,
-        fate,
-    };
-    let turn = session.command(&cut, &mut out, &mut steps)?;
-    Ok((out, turn))
+    match new_session(alloc)? {
+        None => Ok((Vec::new(alloc), Turn::Refused(Code::F1))),
+        Some(mut session) => answer(alloc, &mut session, text, fate, &mut steps),
+    }
 }
 
 const ANSWERS: [(&str, &str); 14] = [
@@ -74,7 +93,7 @@ const ANSWERS: [(&str, &str); 14] = [
         "? 170141183460469231731687303715884105728",
         "refused L3 at 7:3: number past the range\n",
     ),
-    ("? 1 * 2", "refused S0 at 7:1: form is not built yet\n"),
+    ("? 1 * 2", "-> 2 : Integer\n"),
     ("  ? 1 +", "refused S1 at 7:8: unexpected token\n"),
     ("? 1 2", "refused S1 at 7:5: unexpected token\n"),
     ("\n check", "refused S0 at 8:2: form is not built yet\n"),
@@ -119,22 +138,5 @@ fn a_command_that_was_not_cut_out_whole_is_refused(rt: HostRuntime) -> Result<()
         b"refused K2 at 7:1: block is not closed\n".as_slice()
     );
     assert_eq!(rt; turn, Turn::Refused(Code::K2));
-    Ok(())
-}
-
-#[test]
-fn a_sum_has_at_most_256_numbers(rt: HostRuntime) -> Result<(), Fail> {
-    let mut text = Vec::from_slice(rt.alloc(), b"? 1")?;
-    for _ in 0..255 {
-        text.extend_from_slice(b"+1")?;
-    }
-    assert!(rt; text.len() < 65000);
-    let (out, turn) = answered::<Brand>(rt.alloc(), &text, Fate::Whole, Blank::new(1))?;
-    assert_eq!(rt; out.as_slice(), b"-> 256 : Integer\n".as_slice());
-    assert_eq!(rt; turn, Turn::Quiet);
-    text.extend_from_slice(b"+1")?;
-    assert!(rt; text.len() < 65000);
-    let (_, turn) = answered::<Brand>(rt.alloc(), &text, Fate::Whole, Blank::new(1))?;
-    assert_eq!(rt; turn, Turn::Refused(Code::S0));
     Ok(())
 }

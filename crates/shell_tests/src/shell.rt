@@ -95,7 +95,7 @@ const RUNS: [Run; 12] = [
         words: &["M.use"],
         model: " model check -- a name\n",
         input: "\n? 1\n \t\r\n? 1 * 2\n-- a comment\n\\\n? 1 +\n\n2\n.\n? 4",
-        output: "-> 1 : Integer\nrefused S0 at 4:1: form is not built yet\n-> 3 : Integer\n-> 4 : Integer\n",
+        output: "-> 1 : Integer\n-> 2 : Integer\n-> 3 : Integer\n-> 4 : Integer\n",
         status: Status::Done,
     },
     Run {

@@ -1,0 +1,4 @@
+use Rattle.shell_tests.proofs.sessions.each_rule_refuses_a_command.Given as goal
+
+abbrev pub ghosts-wrong_line : goal.ghosts-wrong_line
+ghosts-wrong_line g a = record { name = a.blank.name; parts = a.blank.parts }
