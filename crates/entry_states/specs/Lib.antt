@@ -1,0 +1,4 @@
+pub mod Overlays
+pub mod Frames
+pub mod Leading
+pub mod Noting

@@ -1,0 +1,4 @@
+pub mod Verdicts
+pub mod Broken
+pub mod Counts
+pub mod Noting
