@@ -89,4 +89,3 @@ pub(crate) static MOVES_TO_NOW: &[Move] = &[
     Move::Link(WORKS_IN, 3, 6),
     Move::Create("dora", PERSON),
 ];
-
