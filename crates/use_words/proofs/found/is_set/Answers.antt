@@ -8,7 +8,7 @@ use Rattle.use_words.proofs.found.is_set.Goals as goal
 pub returns : goal.returns
 returns c =
     let is : one_text (found_of c.args.matches.now) c.args.name.now ≡ one_of c.args.name.now (rows_of (found_of c.args.matches.now))
-            = one_text_is (found_of c.args.matches.now) c.args.name.now in
+    = one_text_is (found_of c.args.matches.now) c.args.name.now in
     c.unwrap_or.ensures
     ∙ flag_is _ (one_of c.args.name.now (rows_of (found_of c.args.matches.now))) c.get_one.result
-        (λ none. c.get_one.ensures.none (is ∙ none)) (λ t some. c.get_one.ensures.value t (is ∙ some))
+    (λ none. c.get_one.ensures.none (is ∙ none)) (λ t some. c.get_one.ensures.value t (is ∙ some))
