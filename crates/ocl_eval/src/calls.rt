@@ -84,6 +84,7 @@ where
     }
 
     /// A derived attribute of a value.
+    #[inline(never)]
     pub(crate) fn derived_of(
         &self,
         number: DerNo,
@@ -135,6 +136,7 @@ where
     }
 
     /// The query that a value carries out.
+    #[inline(never)]
     pub(crate) fn query_of(
         &self,
         op: OpNo,

@@ -370,6 +370,7 @@ where
     }
 
     #[tactic(auto, unfolding(crate::specs::Nodes::iterator))]
+    #[inline(never)]
     pub(crate) fn iterator(
         &self,
         op: IterOp,

@@ -76,6 +76,7 @@ where
     }
 
     #[tactic(auto, unfolding(crate::specs::Nodes::make))]
+    #[inline(never)]
     pub(crate) fn make(
         &self,
         kind: Kind,

@@ -46,6 +46,7 @@ where
     }
 
     #[tactic(auto, unfolding(crate::specs::Nodes::unary))]
+    #[inline(never)]
     pub(crate) fn unary(
         &self,
         op: UnaryOp,
@@ -98,6 +99,7 @@ where
     }
 
     #[tactic(auto, unfolding(crate::specs::Nodes::binary))]
+    #[inline(never)]
     pub(crate) fn binary(
         &self,
         op: BinaryOp,
@@ -168,6 +170,7 @@ where
     }
 
     #[tactic(auto, unfolding(crate::specs::Nodes::choice))]
+    #[inline(never)]
     pub(crate) fn choice(
         &self,
         c: &Expr,
@@ -216,6 +219,7 @@ where
     }
 
     #[tactic(auto, unfolding(crate::specs::Nodes::bind))]
+    #[inline(never)]
     pub(crate) fn bind(
         &self,
         a: &Expr,
@@ -266,6 +270,7 @@ where
     }
 
     #[tactic(auto, unfolding(crate::specs::Nodes::plain))]
+    #[inline(never)]
     pub(crate) fn plain(
         &self,
         op: PlainOp,
@@ -294,6 +299,7 @@ where
     }
 
     #[tactic(auto, unfolding(crate::specs::Nodes::collection))]
+    #[inline(never)]
     pub(crate) fn collection(
         &self,
         op: CollOp,
@@ -323,6 +329,7 @@ where
     }
 
     #[tactic(auto, unfolding(crate::specs::Nodes::to_set))]
+    #[inline(never)]
     pub(crate) fn to_set(
         &self,
         a: &Expr,

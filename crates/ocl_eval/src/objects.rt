@@ -57,6 +57,7 @@ fn slot<S, V: States<S>>(
 }
 
 /// A stored attribute of a value.
+#[inline(never)]
 pub(crate) fn slot_of<S, V: States<S>>(
     setting: &Setting<'_, V>,
     number: AttrNo,
@@ -109,6 +110,7 @@ fn linked<S, V: States<S>>(
 }
 
 /// What stands at an end of a value.
+#[inline(never)]
 pub(crate) fn linked_with<S, V: States<S>>(
     setting: &Setting<'_, V>,
     assoc: AssocNo,
@@ -130,6 +132,7 @@ pub(crate) fn linked_with<S, V: States<S>>(
 
 /// The instances of a class.
 #[tactic(auto, unfolding(crate::specs::Nodes::instances))]
+#[inline(never)]
 pub(crate) fn instances<S, V: States<S>>(
     setting: &Setting<'_, V>,
     class: ClassNo,
@@ -175,6 +178,7 @@ fn test_object<S, V: States<S>>(
 }
 
 /// The answer about the type of a value.
+#[inline(never)]
 pub(crate) fn test_value<S, V: States<S>>(
     setting: &Setting<'_, V>,
     test: TypeTest,
@@ -212,6 +216,7 @@ fn is_new<S, V: States<S>>(
 }
 
 /// Whether a value is an object that was not there at entry.
+#[inline(never)]
 pub(crate) fn new_object<S, V: States<S>>(
     setting: &Setting<'_, V>,
     x: &Value,

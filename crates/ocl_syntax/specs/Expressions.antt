@@ -20,6 +20,10 @@ unfoldable pub expression_in : ℕ → LexedText → ℕ → Piece → Written
 expression_in zero l n piece = left_out
 expression_in (suc fuel) l n piece = expression_of (expression_in fuel l) n (layer_of l piece)
 
+-- the expression of a form, in which at most so many more are nested
+abbrev pub layered : ℕ → LexedText → ℕ → Layer → Written
+layered fuel l n layer = expression_of (expression_in fuel l) n layer
+
 -- no expression that was read nests more forms: at most 257 take a level, with one other around each, and 200 are parentheses
 abbrev pub max_forms : ℕ
 max_forms = 1000

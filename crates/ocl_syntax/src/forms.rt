@@ -66,7 +66,7 @@ fn behind_source<'a>(
     Ok(Items::from_vec(inner))
 }
 
-fn name_if(
+pub(crate) fn name_if(
     alloc: Global,
     lexed: &Lexed<'_>,
     node: &Option<NodeRef<'_>>,
@@ -114,7 +114,7 @@ fn arrow_layer<'a>(
 }
 
 /// A dot or an arrow behind a source.
-fn step_layer<'a>(
+pub(crate) fn step_layer<'a>(
     alloc: Global,
     lexed: &Lexed<'_>,
     source: Piece<'a>,
@@ -131,42 +131,8 @@ fn step_layer<'a>(
     }
 }
 
-/// An expression, and what stands right behind it.
-fn behind_layer<'a>(
-    alloc: Global,
-    lexed: &Lexed<'_>,
-    left: Piece<'a>,
-    behind: Behind<'a>,
-) -> Result<Layer<'a>, AllocError>
-    ensures { IfOk result (λ y. y ≡ behind_layer lexed.now left.entry behind.entry) }
-{
-    match behind {
-        Behind::Step(node) => step_layer(alloc, lexed, left, &node),
-        Behind::Operator(operator, operand) => {
-            let place = place_at(lexed, &operator);
-            let head = Head::Binary(place, binary_operator(&operator));
-            over_two(alloc, head, left, Piece::Node(operand))
-        }
-    }
-}
-
-/// A row, whose last part is the outermost.
-fn row_layer<'a>(
-    alloc: Global,
-    lexed: &Lexed<'_>,
-    first: NodeRef<'a>,
-    mut behind: Items<Behind<'a>>,
-) -> Result<Layer<'a>, AllocError>
-    ensures { IfOk result (λ y. y ≡ row_layer lexed.now first.entry (reverse behind.entry)) }
-{
-    match behind.pop() {
-        None => over_one(alloc, Head::Same, Piece::Node(first)),
-        Some(last) => behind_layer(alloc, lexed, Piece::Row(first, behind), last),
-    }
-}
-
 /// Operators and the operands on their right.
-fn operators_of<'a>(
+pub(crate) fn operators_of<'a>(
     alloc: Global,
     operators: Parts<'a>,
     mut operands: Parts<'a>,
@@ -183,24 +149,7 @@ fn operators_of<'a>(
     Ok(Items::from_vec(found))
 }
 
-fn chain_layer<'a>(
-    alloc: Global,
-    lexed: &Lexed<'_>,
-    node: &ChainNode<'a>,
-) -> Result<Layer<'a>, AllocError>
-    ensures { IfOk result (λ y. y ≡ chain_layer lexed.now node.now) }
-{
-    let mut operands = node.operands.copy();
-    match operands.next() {
-        None => Ok(lacking(alloc)),
-        Some(first) => {
-            let behind = operators_of(alloc, node.operators.copy(), operands)?;
-            row_layer(alloc, lexed, first, behind)
-        }
-    }
-}
-
-fn steps_of<'a>(alloc: Global, steps: Parts<'a>) -> Result<Items<Behind<'a>>, AllocError>
+pub(crate) fn steps_of<'a>(alloc: Global, steps: Parts<'a>) -> Result<Items<Behind<'a>>, AllocError>
     ensures { IfOk result (λ v. v ≡ map Behind.Step steps.entry) }
 {
     let mut found = Vec::new(alloc);
@@ -208,33 +157,6 @@ fn steps_of<'a>(alloc: Global, steps: Parts<'a>) -> Result<Items<Behind<'a>>, Al
         found.push(Behind::Step(step))?;
     }
     Ok(Items::from_vec(found))
-}
-
-fn postfix_layer<'a>(
-    alloc: Global,
-    lexed: &Lexed<'_>,
-    node: &PostfixNode<'a>,
-) -> Result<Layer<'a>, AllocError>
-    ensures { IfOk result (λ y. y ≡ postfix_layer lexed.now node.now) }
-{
-    let steps = steps_of(alloc, node.steps.copy())?;
-    row_layer(alloc, lexed, node.source.copy(), steps)
-}
-
-fn unary_layer<'a>(
-    alloc: Global,
-    lexed: &Lexed<'_>,
-    node: &UnaryNode<'a>,
-) -> Result<Layer<'a>, AllocError>
-    ensures { IfOk result (λ y. y ≡ unary_layer lexed.now node.now) }
-{
-    match &node.operator {
-        None => Ok(lacking(alloc)),
-        Some(operator) => {
-            let head = Head::Unary(place_at(lexed, operator), unary_operator(operator));
-            over_one(alloc, head, Piece::Node(node.operand.copy()))
-        }
-    }
 }
 
 fn bind_layer<'a>(
@@ -254,7 +176,7 @@ fn bind_layer<'a>(
 }
 
 /// The binds of a `let` and its body.
-fn binds_layer<'a>(
+pub(crate) fn binds_layer<'a>(
     alloc: Global,
     lexed: &Lexed<'_>,
     word: Option<Place>,
@@ -272,7 +194,7 @@ fn binds_layer<'a>(
     }
 }
 
-fn let_layer<'a>(
+pub(crate) fn let_layer<'a>(
     alloc: Global,
     lexed: &Lexed<'_>,
     node: &NodeRef<'a>,
@@ -290,23 +212,7 @@ fn let_layer<'a>(
     )
 }
 
-fn literal_layer<'a>(
-    alloc: Global,
-    lexed: &Lexed<'_>,
-    node: &PrimaryNode<'a>,
-) -> Result<Layer<'a>, AllocError>
-    ensures { IfOk result (λ y. y ≡ literal_layer lexed.now node.now) }
-{
-    match literal_at(alloc, lexed, &node.form)? {
-        None => Ok(lacking(alloc)),
-        Some(literal) => Ok(Layer {
-            head: Head::Literal(place_at(lexed, &node.form), literal),
-            inner: Items::new(alloc),
-        }),
-    }
-}
-
-fn only_literal_layer<'a>(
+pub(crate) fn only_literal_layer<'a>(
     alloc: Global,
     lexed: &Lexed<'_>,
     node: &NodeRef<'a>,
@@ -322,7 +228,7 @@ fn only_literal_layer<'a>(
     })
 }
 
-fn collection_layer<'a>(
+pub(crate) fn collection_layer<'a>(
     alloc: Global,
     lexed: &Lexed<'_>,
     node: &CollectionNode<'a>,
@@ -337,7 +243,7 @@ fn collection_layer<'a>(
     })
 }
 
-fn named_layer<'a>(
+pub(crate) fn named_layer<'a>(
     alloc: Global,
     lexed: &Lexed<'_>,
     node: &NamedNode<'a>,
@@ -353,7 +259,7 @@ fn named_layer<'a>(
     })
 }
 
-fn choice_layer<'a>(
+pub(crate) fn choice_layer<'a>(
     alloc: Global,
     lexed: &Lexed<'_>,
     node: &NodeRef<'a>,
@@ -370,89 +276,4 @@ fn choice_layer<'a>(
         head: Head::If(place),
         inner,
     })
-}
-
-fn group_layer<'a>(
-    alloc: Global,
-    lexed: &Lexed<'_>,
-    node: &NodeRef<'a>,
-    parts: &GroupNode<'a>,
-) -> Result<Layer<'a>, AllocError>
-    ensures { IfOk result (λ y. y ≡ group_layer lexed.now node.now parts.now) }
-{
-    let place = place_of_mark(lexed, TokenKind::LeftParen, node);
-    over_one(
-        alloc,
-        Head::Group(place),
-        Piece::Node(parts.expression.copy()),
-    )
-}
-
-/// A node that is no row of operands, unary, `let` or source with steps.
-#[tactic(auto, unfolding(crate::specs::Layers::primary_layer))]
-fn primary_layer<'a>(
-    alloc: Global,
-    lexed: &Lexed<'_>,
-    node: &NodeRef<'a>,
-) -> Result<Layer<'a>, AllocError>
-    ensures { IfOk result (λ y. y ≡ primary_layer lexed.now node.now) }
-{
-    if let Some(parts) = PrimaryNode::of(node) {
-        return literal_layer(alloc, lexed, &parts);
-    }
-    if let Some(parts) = LiteralNode::of(node) {
-        return only_literal_layer(alloc, lexed, node, &parts);
-    }
-    if let Some(parts) = CollectionNode::of(node) {
-        return collection_layer(alloc, lexed, &parts);
-    }
-    if let Some(parts) = NamedNode::of(node) {
-        return named_layer(alloc, lexed, &parts);
-    }
-    if let Some(parts) = ChoiceNode::of(node) {
-        return choice_layer(alloc, lexed, node, &parts);
-    }
-    match GroupNode::of(node) {
-        None => Ok(lacking(alloc)),
-        Some(parts) => group_layer(alloc, lexed, node, &parts),
-    }
-}
-
-#[tactic(auto, unfolding(crate::specs::Layers::node_layer))]
-fn node_layer<'a>(
-    alloc: Global,
-    lexed: &Lexed<'_>,
-    node: &NodeRef<'a>,
-) -> Result<Layer<'a>, AllocError>
-    ensures { IfOk result (λ y. y ≡ node_layer lexed.now node.now) }
-{
-    if let Some(parts) = ChainNode::of(node) {
-        return chain_layer(alloc, lexed, &parts);
-    }
-    if let Some(parts) = UnaryNode::of(node) {
-        return unary_layer(alloc, lexed, &parts);
-    }
-    if let Some(parts) = LetNode::of(node) {
-        return let_layer(alloc, lexed, node, &parts);
-    }
-    match PostfixNode::of(node) {
-        None => primary_layer(alloc, lexed, node),
-        Some(parts) => postfix_layer(alloc, lexed, &parts),
-    }
-}
-
-/// The form that is written at a piece, and the pieces in it.
-#[tactic(auto, unfolding(crate::specs::Layers::layer_of))]
-pub(crate) fn layer_of<'a>(
-    alloc: Global,
-    lexed: &Lexed<'_>,
-    piece: Piece<'a>,
-) -> Result<Layer<'a>, AllocError>
-    ensures { IfOk result (λ y. y ≡ layer_of lexed.now piece.entry) }
-{
-    match piece {
-        Piece::Node(node) => node_layer(alloc, lexed, &plain(&node)),
-        Piece::Row(first, behind) => row_layer(alloc, lexed, first, behind),
-        Piece::Binds(word, binds, body) => binds_layer(alloc, lexed, word, binds, body),
-    }
 }

@@ -43,6 +43,7 @@ fn word_literal(node: &NodeRef<'_>) -> Option<WrittenLiteral>
     }
 }
 
+#[inline(never)]
 fn string_at(
     alloc: Global,
     lexed: &Lexed<'_>,

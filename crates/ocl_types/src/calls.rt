@@ -40,6 +40,7 @@ where
     }
 
     #[tactic(auto, unfolding(crate::specs::Nodes::named))]
+    #[inline(never)]
     pub(crate) fn named(
         &self,
         env: &mut Environment,
@@ -224,6 +225,7 @@ where
 
     /// What stands behind a dot.
     #[tactic(auto, unfolding(crate::specs::Nodes::dot))]
+    #[inline(never)]
     pub(crate) fn dot(
         &self,
         env: &mut Environment,

@@ -446,6 +446,7 @@ where
 
     /// What stands behind an arrow.
     #[tactic(auto, unfolding(crate::specs::Nodes::arrow))]
+    #[inline(never)]
     pub(crate) fn arrow(
         &self,
         env: &mut Environment,

@@ -152,6 +152,7 @@ where
     }
 
     #[tactic(auto, unfolding(crate::specs::Nodes::unary))]
+    #[inline(never)]
     pub(crate) fn unary(
         &self,
         env: &mut Environment,
@@ -169,6 +170,7 @@ where
     }
 
     #[tactic(auto, unfolding(crate::specs::Nodes::binary))]
+    #[inline(never)]
     pub(crate) fn binary(
         &self,
         env: &mut Environment,
@@ -188,6 +190,7 @@ where
     }
 
     #[tactic(auto, unfolding(crate::specs::Nodes::choice))]
+    #[inline(never)]
     pub(crate) fn choice(
         &self,
         env: &mut Environment,
@@ -214,6 +217,7 @@ where
     }
 
     #[tactic(auto, unfolding(crate::specs::Nodes::bind))]
+    #[inline(never)]
     pub(crate) fn bind(
         &self,
         env: &mut Environment,
@@ -285,6 +289,7 @@ where
     }
 
     #[tactic(auto, unfolding(crate::specs::Nodes::collection))]
+    #[inline(never)]
     pub(crate) fn collection(
         &self,
         env: &mut Environment,
