@@ -1,26 +1,16 @@
 -- Changes that can be taken back, one more and one less, and that they lead to where they led.
-use Rattle.std.proofs.Common.{◌≡◌, List, [], ◌∷◌, ◌++◌, Some, None, refl, sym, ap, ◌∙◌, subst}
+use Rattle.std.proofs.Common.{◌≡◌, List, [], ◌∷◌, ◌++◌, refl, sym, ap, subst}
 use Rattle.object_state.specs.declared.change.Change.{Change}
-use Rattle.object_state.specs.declared.change.Change.TheVariants.{Create, Remove, SetSlot, Link, Unlink, Bind, Unbind}
 use Rattle.object_state.specs.declared.layout.Layout.{Layout}
 use Rattle.object_state.specs.Changes.{apply, inverse}
 use Rattle.object_state.specs.Faults.{Fits}
 use Rattle.object_state.specs.State.{State}
 use Rattle.object_state.specs.Valid.{IsValid}
 use Rattle.object_state.proofs.Back as changes
-use Rattle.object_state.proofs.Kept.{stays_valid}
 use Rattle.object_state.proofs.Refit.{fits_back}
-use Rattle.soil_changes.specs.Progress.{CanBeTakenBack, Lead, taken_back}
-
-pub inverse_twice : (c : Change) → inverse (inverse c) ≡ c
-inverse_twice (Create d) = refl
-inverse_twice (Remove d) = refl
-inverse_twice (SetSlot o a old new) = refl
-inverse_twice (Link d) = refl
-inverse_twice (Unlink d) = refl
-inverse_twice (Bind name None new) = refl
-inverse_twice (Bind name (Some old) new) = refl
-inverse_twice (Unbind name old) = refl
+use Rattle.entry_states.specs.Leading.{CanBeCarriedOut, CanBeTakenBack, led_on, taken_back}
+use Rattle.entry_states.proofs.Led.{back_and_on}
+use Rattle.soil_changes.specs.Progress.{Lead}
 
 module _ (l : Layout) where
   -- one change more
@@ -47,17 +37,15 @@ module _ (l : Layout) where
   back_less [] c s b = tt
   back_less (d ∷ cs) c s b = (back_less cs c s b.0, subst (λ t. Fits l t (inverse d)) (start_less cs c s) b.1)
 
-  -- the changes lead from the first state to the last, through valid ones
-  pub start_valid : (cs : List Change) (s : State) → IsValid l s → CanBeTakenBack l cs s → IsValid l (taken_back l cs s)
-  start_valid [] s v b = v
-  start_valid (c ∷ cs) s v b = stays_valid l (taken_back l cs s) (inverse c) (start_valid cs s v b.0) b.1
+  -- between the forms of one fact
+  pub leads : (cs : List Change) (s t : State) → CanBeCarriedOut l s cs → led_on l s cs ≡ t → Lead l s cs t
+  leads [] s t h e = e
+  leads (c ∷ cs) s t h e = (h.0, leads cs (apply l s c) t h.1 e)
 
+  pub carried : (cs : List Change) (s t : State) → Lead l s cs t → CanBeCarriedOut l s cs × (led_on l s cs ≡ t)
+  carried [] s t h = (tt, h)
+  carried (c ∷ cs) s t h = let r = carried cs (apply l s c) t h.1 in ((h.0, r.0), r.1)
+
+  -- the changes lead from the first state to the last
   pub lead : (cs : List Change) (s : State) → IsValid l s → CanBeTakenBack l cs s → Lead l (taken_back l cs s) cs s
-  lead [] s v b = refl
-  lead (c ∷ cs) s v b =
-      let mid = taken_back l cs s in
-      let w = start_valid cs s v b.0 in
-      let fits = subst (λ d. Fits l (apply l mid (inverse c)) d) (inverse_twice c) (fits_back l mid (inverse c) w b.1) in
-      let there : apply l (apply l mid (inverse c)) c ≡ mid =
-      ap (apply l (apply l mid (inverse c))) (sym (inverse_twice c)) ∙ changes.taken_back l mid (inverse c) w b.1 in
-      (fits, subst (λ t. Lead l t cs s) (sym there) (lead cs s v b.0))
+  lead cs s v b = let r = back_and_on l cs s v b in leads cs (taken_back l cs s) s r.0 r.1

@@ -1,7 +1,8 @@
 -- What a transaction keeps: its changes can be taken back.
 use Rattle.std.specs.Prelude.{ℕ, ◌≤◌, ◌^◌, length}
 use Rattle.soil_changes.specs.declared.transaction.Transaction.TheInside.{Inside}
-use Rattle.soil_changes.specs.Progress.{CanBeTakenBack, Progress, max_change_weight, taken_back}
+use Rattle.entry_states.specs.Leading.{CanBeTakenBack, taken_back}
+use Rattle.soil_changes.specs.Progress.{Progress, max_change_weight}
 
 abbrev pub progress : Inside → Progress
 progress t = record {

@@ -7,7 +7,7 @@ use Rattle.object_state.specs.declared.change.Change.{Change}
 use Rattle.object_state.specs.declared.layout.Layout.{Layout}
 use Rattle.object_state.specs.declared.store_fault.StoreFault.{StoreFault}
 use Rattle.object_state.specs.declared.store_fault.StoreFault.TheVariants as fault
-use Rattle.object_state.specs.Changes.{apply, inverse}
+use Rattle.object_state.specs.Changes.{apply}
 use Rattle.object_state.specs.Faults.{Fits, fault}
 use Rattle.object_state.specs.State.{Diagram, State}
 use Rattle.object_state.specs.Weights.{change_weight}
@@ -81,13 +81,3 @@ Gives outcome (Err (Refused code)) after = outcome ≡ (Err code, after)
 abbrev pub Lead : Layout → State → List Change → State → Type 0
 Lead l s [] t = s ≡ t
 Lead l s (c ∷ cs) t = Fits l s c × Lead l (apply l s c) cs t
-
--- the state before some changes, from the state after them: what takes each back is carried out, the last first
-abbrev pub taken_back : Layout → List Change → State → State
-taken_back l [] s = s
-taken_back l (c ∷ cs) s = apply l (taken_back l cs s) (inverse c)
-
--- and each of that fits in its turn
-abbrev pub CanBeTakenBack : Layout → List Change → State → Type 0
-CanBeTakenBack l [] s = ⊤
-CanBeTakenBack l (c ∷ cs) s = CanBeTakenBack l cs s × Fits l (taken_back l cs s) (inverse c)

@@ -2,7 +2,8 @@ ghost use Rattle.std.specs.Prelude.{◌≡◌, ◌≤◌, ◌^◌, OnOk, length}
 ghost use Rattle.object_state.specs.Changes.{apply, inverse};
 ghost use Rattle.object_state.specs.Faults.{Fits, OldPartsAgree};
 ghost use Rattle.object_state.specs.Weights.{change_weight};
-ghost use Rattle.soil_changes.specs.Progress.{CanBeTakenBack, Gives, Lead, begun, diagram_of, make, make_fit, taken_back, with_change};
+ghost use Rattle.entry_states.specs.Leading.{CanBeTakenBack, taken_back};
+ghost use Rattle.soil_changes.specs.Progress.{Gives, Lead, begun, diagram_of, make, make_fit, with_change};
 
 use crate::ChangeFault;
 use crate::fault::{breaks, breaks_x};

@@ -1,0 +1,3 @@
+mod Moved
+pub mod Stepped
+pub mod Whole

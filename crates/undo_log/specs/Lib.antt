@@ -1,1 +1,5 @@
 pub mod Kept
+pub mod Moves
+pub mod Points
+pub mod Timelines
+pub mod Steps

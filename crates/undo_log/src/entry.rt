@@ -1,3 +1,4 @@
+use crate::FrameMove;
 use object_state::Change;
 use use_lists::Items;
 
@@ -6,4 +7,5 @@ use use_lists::Items;
 pub struct Entry {
     /// In the order in which they were made.
     pub changes: Items<Change>,
+    pub moved: FrameMove,
 }

@@ -14,7 +14,10 @@ fn entry(alloc: Global, object: u32) -> Result<Entry, AllocError> {
         old: Value::Null,
         new: Value::Bool(true),
     })?;
-    Ok(Entry { changes })
+    Ok(Entry {
+        changes,
+        moved: FrameMove::Stay,
+    })
 }
 
 /// The object of an entry's first change.

@@ -1,7 +1,7 @@
 use Rattle.std.proofs.Common.{◌≡◌, List, [], ◌∷◌, ◌++◌, ap, sym, subst, ◌∙◌}
 use Rattle.object_state.specs.declared.change.Change.{Change}
 use Rattle.object_state.specs.State.{Diagram}
-use Rattle.soil_changes.specs.Progress.{CanBeTakenBack, taken_back}
+use Rattle.entry_states.specs.Leading.{CanBeTakenBack, taken_back}
 use Rattle.soil_changes.proofs.Back.{back_less, fits_less, start_less}
 use Rattle.soil_changes.proofs.transaction.take_back.Goals as goal
 

@@ -3,8 +3,10 @@ use Rattle.object_state.specs.declared.change.Change.{Change}
 use Rattle.object_state.specs.Changes.{apply, inverse}
 use Rattle.object_state.specs.Faults.{Fits}
 use Rattle.object_state.specs.State.{Diagram}
-use Rattle.soil_changes.specs.Progress.{CanBeTakenBack, Progress, taken_back, with_change}
-use Rattle.soil_changes.proofs.Back.{back_more, inverse_twice, start_more}
+use Rattle.entry_states.specs.Leading.{CanBeTakenBack, taken_back}
+use Rattle.soil_changes.specs.Progress.{Progress, with_change}
+use Rattle.entry_states.proofs.Led.{inverse_twice}
+use Rattle.soil_changes.proofs.Back.{back_more, start_more}
 use Rattle.soil_changes.proofs.transaction.Transaction.carry_out.Goals as goal
 
 abbrev of : Diagram → List Change → ℕ → Progress
