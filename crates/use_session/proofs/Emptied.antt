@@ -30,7 +30,7 @@ use Rattle.object_state.proofs.Kept.{stays_valid}
 use Rattle.object_referrers.proofs.Names.{there}
 use Rattle.soil_changes.specs.Joining.{unlinking}
 use Rattle.soil_changes.proofs.Agreeing.{removal_agrees, unlinking_agrees}
-use Rattle.use_session.specs.Moments.{CanBeCarriedOut, led_on}
+use Rattle.entry_states.specs.Leading.{CanBeCarriedOut, led_on}
 use Rattle.use_session.specs.Resetting.{cleared, removals, removed, reset_changes, unbindings, unlinked, unlinkings}
 use Rattle.use_session.proofs.Led.{joined}
 

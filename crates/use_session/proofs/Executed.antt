@@ -5,6 +5,7 @@ use Rattle.std.specs.declared.alloc.AllocError.{AllocError}
 use Rattle.std.proofs.lemmas.List.{append-nil}
 use Rattle.use_text.specs.declared.refusal.Refusal.{Refusal}
 use Rattle.ocl_core.specs.declared.statement.Stmt.{Stmt}
+use Rattle.invariant_cache.specs.Counts.{Counts, StandsFor}
 use Rattle.object_state.specs.declared.change.Change.{Change}
 use Rattle.object_state.specs.State.{Diagram}
 use Rattle.object_state.specs.Valid.{IsValid}
@@ -51,9 +52,10 @@ module _ (k : Kept) (h : IsKept k) (v : IsValid k.store.layout k.store.state) (b
   same_step = λ i. told (machine_of k) (exec k.program body shell [] (record k.store { layout = h.layout i }))
 
   module _ (cs : List Change) (d : Diagram) (steps' : ℕ) (done : Executes k.store outcome steps cs d steps') (layout : d.layout ≡ k.store.layout)
-      (lead : Lead k.store.layout k.store.state cs d.state) (typed : IsTyped k.program.model k.store.state → IsTyped k.program.model d.state) where
+      (lead : Lead k.store.layout k.store.state cs d.state) (typed : IsTyped k.program.model k.store.state → IsTyped k.program.model d.state)
+      (counts : Counts) (stands : StandsFor k.program.model counts d.state) where
     abbrev behind : Kept
-    behind = executed k h v cs d.state lead
+    behind = executed k h v cs d.state lead counts stands
 
     step : accepted (kept (machine_of k) d.state cs) [] outcome.1.steps ≡ execute (machine_of k) body shell
     step =
@@ -62,19 +64,19 @@ module _ (k : Kept) (h : IsKept k) (v : IsValid k.store.layout k.store.state) (b
     answered : Answers (accepted (kept (machine_of k) d.state cs) [] outcome.1.steps) bytes steps (Ok Quiet) behind bytes steps'
     answered = record {
       turn = refl;
-      kept = executed_kept k h v cs d.state lead (typed (types_of k h v).present);
-      machine = executed_machine k h v cs d.state lead;
+      kept = executed_kept k h v cs d.state lead counts stands (typed (types_of k h v).present);
+      machine = executed_machine k h v cs d.state lead counts stands;
       bytes = sym (append-nil bytes);
       units = done.steps;
     }
 
     -- the changes are kept
     pub executed_answers : (history : History) → history ≡ record k.history { past = take k.history.capacity (entry cs ∷ k.history.past); future = [] }
-        → Answers (execute (machine_of k) body shell) bytes steps (Ok Quiet) (record k { store = d; history = history }) bytes steps'
+        → Answers (execute (machine_of k) body shell) bytes steps (Ok Quiet) (record k { store = d; structure = counts; history = history }) bytes steps'
     executed_answers history same =
-        subst (λ s. Answers s bytes steps (Ok Quiet) (record k { store = d; history = history }) bytes steps') step
+        subst (λ s. Answers s bytes steps (Ok Quiet) (record k { store = d; structure = counts; history = history }) bytes steps') step
         (subst (λ (z : Diagram × History).
-        Answers (accepted (kept (machine_of k) d.state cs) [] outcome.1.steps) bytes steps (Ok Quiet) (record k { store = z.0; history = z.1 }) bytes steps')
+        Answers (accepted (kept (machine_of k) d.state cs) [] outcome.1.steps) bytes steps (Ok Quiet) (record k { store = z.0; structure = counts; history = z.1 }) bytes steps')
         (λ i. (record d { layout = sym layout i }, sym same i)) answered)
 
   -- nothing is changed

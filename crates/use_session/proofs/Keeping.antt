@@ -1,23 +1,29 @@
 -- What is kept after a command that is executed, taken back or carried out again.
-use Rattle.std.proofs.Common.{◌≡◌, ℕ, zero, suc, List, [], ◌∷◌, ◌++◌, map, take, refl, sym, ap, ◌∙◌, subst}
+use Rattle.std.proofs.Common.{◌≡◌, ℕ, zero, suc, List, [], ◌∷◌, ◌++◌, length, map, take, refl, sym, ap, ◌∙◌, subst}
 use Rattle.std.specs.List.{All, AllByRecursion}
 use Rattle.std.proofs.lemmas.List.Elements.{All-from_recursion, All-nil, recursion_from_All}
 use Rattle.class_model.specs.InRange.{IsTypeOf}
 use Rattle.class_model.specs.declared.object_model.ObjectModel.{ObjectModel}
+use Rattle.invariant_cache.specs.Counts.{Counts, StandsFor}
 use Rattle.object_state.specs.declared.change.Change.{Change}
 use Rattle.object_state.specs.declared.layout.Layout.{Layout}
 use Rattle.object_state.specs.declared.objects.Variable.{Variable}
-use Rattle.object_state.specs.State.{State}
+use Rattle.object_state.specs.Layouts.{layout_of}
+use Rattle.object_state.specs.State.{State, empty}
 use Rattle.object_state.specs.Valid.{IsValid}
-use Rattle.soil_changes.specs.Progress.{CanBeTakenBack, Lead, taken_back}
+use Rattle.entry_states.specs.Leading.{CanBeCarriedOut, CanBeTakenBack, led_on, taken_back}
+use Rattle.entry_states.proofs.Led.{back_and_on, on_and_back}
+use Rattle.soil_changes.specs.Progress.{Lead}
 use Rattle.soil_exec.specs.Typed.{IsTyped}
 use Rattle.undo_log.specs.declared.entry.Entry.{Entry}
+use Rattle.undo_log.specs.declared.frame_move.FrameMove.TheVariants.{Stay}
+use Rattle.undo_log.specs.Kept.{Kept as History}
 use Rattle.use_session.specs.declared.machine.Machine.{Machine as Kept}
 use Rattle.use_session.specs.Kept.{IsKept, machine_of}
-use Rattle.use_session.specs.Machine.{kept, max_history, reset}
-use Rattle.use_session.specs.Moments.{CanBeCarriedOut, LeadHere, LeadOn, Moment, future_of, led_on, moment, past_of}
+use Rattle.use_session.specs.Machine.{kept, max_history, start}
+use Rattle.use_session.specs.Moments.{LeadHere, LeadOn, Moment, future_of, moment, past_of}
 use Rattle.use_session.specs.Resetting.{cleared}
-use Rattle.use_session.proofs.Led.{back, back_and_on, on_and_back}
+use Rattle.use_session.proofs.Led.{back}
 
 module _ (l : Layout) where
   -- the newest entries
@@ -71,11 +77,15 @@ typed_together m xs s ys t =
     All-from_recursion (IsTyped m) (s ∷ map (λ x. x.state) (xs ++ ys)) (t.present, both_parts (IsTyped m) (λ x. x.state) xs ys t.past t.future)
 
 abbrev pub entry : List Change → Entry
-entry cs = record { changes = cs }
+entry cs = record { changes = cs; moved = Stay }
 
--- another state and another history
-abbrev pub moved : Kept → State → List Entry → List Entry → Kept
-moved k s past future = record k { store = record k.store { state = s }; history = record k.history { past = past; future = future } }
+-- another state, with what is kept of its multiplicities, and another history
+abbrev pub moved : Kept → State → Counts → List Entry → List Entry → Kept
+moved k s counts past future = record k {
+  store = record k.store { state = s };
+  structure = counts;
+  history = record k.history { past = past; future = future };
+}
 
 module _ (k : Kept) (h : IsKept k) (v : IsValid k.store.layout k.store.state) where
   abbrev L : Layout
@@ -85,9 +95,9 @@ module _ (k : Kept) (h : IsKept k) (v : IsValid k.store.layout k.store.state) wh
   types_of = typed_apart k.program.model (machine_of k).past k.store.state (machine_of k).future h.types
 
   -- after a command with these changes
-  module _ (cs : List Change) (s : State) (lead : Lead k.store.layout k.store.state cs s) where
+  module _ (cs : List Change) (s : State) (lead : Lead k.store.layout k.store.state cs s) (counts : Counts) (stands : StandsFor k.program.model counts s) where
     abbrev pub executed : Kept
-    executed = moved k s (take k.history.capacity (entry cs ∷ k.history.past)) []
+    executed = moved k s counts (take k.history.capacity (entry cs ∷ k.history.past)) []
 
     executed_past : past_of L s (take k.history.capacity (entry cs ∷ k.history.past)) ≡ take max_history (moment k.store.state cs ∷ (machine_of k).past)
     executed_past =
@@ -107,6 +117,8 @@ module _ (k : Kept) (h : IsKept k) (v : IsValid k.store.layout k.store.state) wh
           future = tt;
         } in
         record {
+          structure = stands;
+          cache = h.cache;
           layout = h.layout;
           capacity = h.capacity;
           past = here_take L k.history.capacity (entry cs ∷ k.history.past) s
@@ -121,8 +133,8 @@ module _ (k : Kept) (h : IsKept k) (v : IsValid k.store.layout k.store.state) wh
     abbrev before : State
     before = taken_back k.store.layout e.changes k.store.state
 
-    abbrev pub undone : Kept
-    undone = moved k before es (e ∷ k.history.future)
+    abbrev pub undone : Counts → Kept
+    undone counts = moved k before counts es (e ∷ k.history.future)
 
     undone_lead : LeadHere L k.store.state (e ∷ es)
     undone_lead = subst (λ xs. LeadHere L k.store.state xs) is h.past
@@ -136,8 +148,8 @@ module _ (k : Kept) (h : IsKept k) (v : IsValid k.store.layout k.store.state) wh
     pub undone_past : (machine_of k).past ≡ moment before e.changes ∷ past_of L before es
     undone_past = ap (past_of L k.store.state) is
 
-    pub undone_kept : IsKept undone
-    undone_kept =
+    pub undone_kept : (counts : Counts) → StandsFor k.program.model counts before → IsKept (undone counts)
+    undone_kept counts stands =
         let r = back_and_on L e.changes k.store.state v undo_can in
         let past : TypedAt k.program.model (moment before e.changes ∷ past_of L before es) = subst (TypedAt k.program.model) undone_past (types_of).past in
         let types : Types k.program.model (past_of L before es) before (moment k.store.state e.changes ∷ (machine_of k).future) = record {
@@ -146,6 +158,8 @@ module _ (k : Kept) (h : IsKept k) (v : IsValid k.store.layout k.store.state) wh
           future = ((types_of).present, (types_of).future);
         } in
         record {
+          structure = stands;
+          cache = h.cache;
           layout = h.layout;
           capacity = h.capacity;
           past = undone_lead.1;
@@ -159,8 +173,8 @@ module _ (k : Kept) (h : IsKept k) (v : IsValid k.store.layout k.store.state) wh
     abbrev next : State
     next = led_on k.store.layout k.store.state e.changes
 
-    abbrev pub redone : Kept
-    redone = moved k next (e ∷ k.history.past) es
+    abbrev pub redone : Counts → Kept
+    redone counts = moved k next counts (e ∷ k.history.past) es
 
     redone_lead : LeadOn L k.store.state (e ∷ es)
     redone_lead = subst (λ xs. LeadOn L k.store.state xs) is h.future
@@ -174,8 +188,8 @@ module _ (k : Kept) (h : IsKept k) (v : IsValid k.store.layout k.store.state) wh
     pub redone_future : (machine_of k).future ≡ moment next e.changes ∷ future_of L next es
     redone_future = ap (future_of L k.store.state) is
 
-    pub redone_kept : IsKept redone
-    redone_kept =
+    pub redone_kept : (counts : Counts) → StandsFor k.program.model counts next → IsKept (redone counts)
+    redone_kept counts stands =
         let r = on_and_back L e.changes k.store.state v redo_can in
         let future : TypedAt k.program.model (moment next e.changes ∷ future_of L next es) = subst (TypedAt k.program.model) redone_future (types_of).future in
         let types : Types k.program.model (moment k.store.state e.changes ∷ (machine_of k).past) next (future_of L next es) = record {
@@ -184,6 +198,8 @@ module _ (k : Kept) (h : IsKept k) (v : IsValid k.store.layout k.store.state) wh
           future = future.1;
         } in
         record {
+          structure = stands;
+          cache = h.cache;
           layout = h.layout;
           capacity = h.capacity;
           past = (r.0, subst (λ u. LeadHere L u k.history.past) (sym r.1) h.past);
@@ -193,14 +209,41 @@ module _ (k : Kept) (h : IsKept k) (v : IsValid k.store.layout k.store.state) wh
         }
 
   -- after `reset`
-  abbrev pub emptied : Kept
-  emptied = moved k (cleared k.store.state) [] []
+  abbrev pub emptied : Counts → Kept
+  emptied counts = moved k (cleared k.store.state) counts [] []
 
-  pub emptied_kept : IsKept emptied
-  emptied_kept = record {
+  pub emptied_kept : (counts : Counts) → StandsFor k.program.model counts (cleared k.store.state) → IsKept (emptied counts)
+  emptied_kept counts stands = record {
+    structure = stands;
+    cache = h.cache;
     layout = h.layout;
     capacity = h.capacity;
     past = tt;
     types = All-from_recursion (IsTyped k.program.model) (cleared k.store.state ∷ []) (All-nil (λ (e : List ℕ × Variable). IsTypeOf k.program.model e.1.of_type), tt);
     future = tt;
+  }
+
+-- before the first command
+module _ (k : Kept) (state : k.store.state ≡ empty) (history : k.history ≡ record { past = []; future = []; capacity = max_history }) where
+  pub begun_kept : k.store.layout ≡ layout_of k.program.model → StandsFor k.program.model k.structure empty → length k.program.invariants ≡ k.cache → IsKept k
+  begun_kept layout stands cache =
+      let none : All (IsTyped k.program.model) (empty ∷ []) =
+      All-from_recursion (IsTyped k.program.model) (empty ∷ []) (All-nil (λ (e : List ℕ × Variable). IsTypeOf k.program.model e.1.of_type), tt) in
+      record {
+        layout = layout;
+        capacity = ap (λ (x : History). x.capacity) history;
+        past = subst (λ (x : History). LeadHere k.store.layout k.store.state x.past) (sym history) tt;
+        types = subst (λ (z : State × History). All (IsTyped k.program.model)
+            (z.0 ∷ map (λ x. x.state) (past_of k.store.layout z.0 z.1.past ++ future_of k.store.layout z.0 z.1.future))) (λ i. (sym state i, sym history i)) none;
+        future = subst (λ (x : History). LeadOn k.store.layout k.store.state x.future) (sym history) tt;
+        structure = subst (λ (s : State). StandsFor k.program.model k.structure s) (sym state) stands;
+        cache = cache;
+      }
+
+  pub begun_machine : machine_of k ≡ start k.program
+  begun_machine = λ i. record {
+    program = k.program;
+    past = past_of k.store.layout (state i) (history i).past;
+    present = state i;
+    future = future_of k.store.layout (state i) (history i).future;
   }

@@ -1,46 +1,23 @@
 -- Changes that lead on and back: each that fits in its turn can be taken back, and each that was taken back fits again.
-use Rattle.std.proofs.Common.{◌≡◌, List, [], ◌∷◌, ◌++◌, refl, sym, ap, ◌∙◌, subst}
+use Rattle.std.proofs.Common.{◌≡◌, List, [], ◌∷◌, ◌++◌, sym, ap, ◌∙◌, subst}
 use Rattle.std.proofs.lemmas.List.{append_assoc}
 use Rattle.object_state.specs.declared.change.Change.{Change}
 use Rattle.object_state.specs.declared.layout.Layout.{Layout}
-use Rattle.object_state.specs.Changes.{apply, inverse}
+use Rattle.object_state.specs.Changes.{apply}
 use Rattle.object_state.specs.Faults.{Fits}
 use Rattle.object_state.specs.State.{Diagram, State}
 use Rattle.object_state.specs.Valid.{IsValid}
-use Rattle.object_state.proofs.Back as changes
-use Rattle.object_state.proofs.Kept.{stays_valid}
-use Rattle.object_state.proofs.Refit.{fits_back}
-use Rattle.soil_changes.specs.Progress.{CanBeTakenBack, Lead, taken_back}
-use Rattle.soil_changes.proofs.Back.{lead}
-use Rattle.use_session.specs.Moments.{CanBeCarriedOut, led_on}
+use Rattle.entry_states.specs.Leading.{CanBeCarriedOut, CanBeTakenBack, led_on, taken_back}
+use Rattle.entry_states.proofs.Led.{on_and_back}
+use Rattle.soil_changes.specs.Progress.{Lead}
+use Rattle.soil_changes.proofs.Back.{carried}
 
 module _ (l : Layout) where
-  -- between the forms of one fact
-  pub carried : (cs : List Change) (s t : State) → Lead l s cs t → CanBeCarriedOut l s cs × (led_on l s cs ≡ t)
-  carried [] s t h = (tt, h)
-  carried (c ∷ cs) s t h = let r = carried cs (apply l s c) t h.1 in ((h.0, r.0), r.1)
-
-  pub leads : (cs : List Change) (s : State) → CanBeCarriedOut l s cs → Lead l s cs (led_on l s cs)
-  leads [] s h = refl
-  leads (c ∷ cs) s h = (h.0, leads cs (apply l s c) h.1)
-
   -- what leads on can be taken back
   pub back : (cs : List Change) (s t : State) → IsValid l s → Lead l s cs t → CanBeTakenBack l cs t × (taken_back l cs t ≡ s)
-  back [] s t v h = (tt, sym h)
-  back (c ∷ cs) s t v h =
-      let r = back cs (apply l s c) t (stays_valid l s c v h.0) h.1 in (
-        (r.0, subst (λ u. Fits l u (inverse c)) (sym r.1) (fits_back l s c v h.0)),
-        ap (λ u. apply l u (inverse c)) r.1 ∙ changes.taken_back l s c v h.0,
-      )
-
-  pub on_and_back : (cs : List Change) (s : State) → IsValid l s → CanBeCarriedOut l s cs
-      → CanBeTakenBack l cs (led_on l s cs) × (taken_back l cs (led_on l s cs) ≡ s)
-  on_and_back cs s v h = back cs s (led_on l s cs) v (leads cs s h)
-
-  -- and what was taken back can be carried out again
-  pub back_and_on : (cs : List Change) (s : State) → IsValid l s → CanBeTakenBack l cs s
-      → CanBeCarriedOut l (taken_back l cs s) cs × (led_on l (taken_back l cs s) cs ≡ s)
-  back_and_on cs s v h = carried cs (taken_back l cs s) s (lead l cs s v h)
+  back cs s t v h =
+      let r = carried l cs s t h in
+      subst (λ u. CanBeTakenBack l cs u × (taken_back l cs u ≡ s)) r.1 (on_and_back l cs s v r.0)
 
   -- one list after another
   pub joined : (cs ds : List Change) (s t : State) → CanBeCarriedOut l s cs → led_on l s cs ≡ t → CanBeCarriedOut l t ds

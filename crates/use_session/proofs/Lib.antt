@@ -5,6 +5,13 @@ pub mod Stamps
 pub mod Led
 pub mod Emptied
 pub mod Keeping
+pub mod Noted
 pub mod Told
+pub mod Stepped
 pub mod Evaluated
 pub mod Executed
+pub mod Judged
+pub mod Written
+pub mod Zipped
+pub mod Trimmed
+pub mod Opened

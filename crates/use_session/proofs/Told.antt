@@ -1,21 +1,16 @@
 -- Answers of commands, from what their parts answer.
-use Rattle.std.proofs.Common.{◌≡◌, ◌+◌, ◌++◌, ℕ, List, ◌∷◌, Result, Ok, Err, refl, sym, subst, arith}
+use Rattle.std.proofs.Common.{◌≡◌, ◌+◌, ◌++◌, ℕ, List, Result, Ok, Err, refl, sym, subst, arith}
 use Rattle.std.specs.Prelude.{IfOk, OnOk}
 use Rattle.std.specs.declared.alloc.AllocError.{AllocError}
-use Rattle.std.proofs.lemmas.List.{append-nil}
-use Rattle.use_text.specs.declared.place.Place.{Place}
 use Rattle.use_text.specs.declared.refusal.Refusal.{Refusal}
-use Rattle.object_state.specs.Valid.{IsValid}
-use Rattle.undo_log.specs.declared.entry.Entry.{Entry}
+use Rattle.undo_log.specs.Kept.{Kept as History}
 use Rattle.use_session.specs.declared.machine.Machine.{Machine as Kept}
 use Rattle.use_session.specs.declared.session.Turn.{Turn}
-use Rattle.use_session.specs.declared.session.Turn.TheVariants.{Quiet, Refused}
+use Rattle.use_session.specs.declared.session.Turn.TheVariants.{Refused}
 use Rattle.use_session.specs.Answering.{Answers}
 use Rattle.use_session.specs.Answers.{refusal_line}
 use Rattle.use_session.specs.Kept.{IsKept, machine_of}
-use Rattle.use_session.specs.Machine.{Machine, Step, redone as redo_step, refused_after, undone as undo_step}
-use Rattle.use_session.specs.Moments.{Moment}
-use Rattle.use_session.proofs.Keeping.{redone, redone_future, redone_kept, redone_past, undone, undone_future, undone_kept, undone_past}
+use Rattle.use_session.specs.Machine.{Machine, Step, refused, refused_after}
 
 -- a refusal
 pub refused_answers : (m : Machine) (r : Refusal) (units : ℕ) (bytes : List ℕ) (steps : ℕ) (told : Result Turn AllocError) (k : Kept) (bytes' : List ℕ) (steps' : ℕ)
@@ -38,27 +33,11 @@ uncounted s bytes (Ok turn) k bytes' n a = record {
 }
 uncounted s bytes (Err e) k bytes' n a = tt
 
-module _ (k : Kept) (h : IsKept k) (v : IsValid k.store.layout k.store.state) (at : Place) (bytes : List ℕ) where
-  pub undo_answers : (e : Entry) (es : List Entry) (is : k.history.past ≡ e ∷ es)
-      → Answers (undo_step (machine_of k) at (machine_of k).past) bytes 0 (Ok Quiet) (undone k h v e es is) bytes 0
-  undo_answers e es is = subst (λ (xs : List Moment). Answers (undo_step (machine_of k) at xs) bytes 0 (Ok Quiet) (undone k h v e es is) bytes 0)
-      (sym (undone_past k h v e es is))
-      (record {
-        turn = refl;
-        kept = undone_kept k h v e es is;
-        machine = λ i. record (machine_of (undone k h v e es is)) { future = undone_future k h v e es is i };
-        bytes = sym (append-nil bytes);
-        units = refl;
-      })
-
-  pub redo_answers : (e : Entry) (es : List Entry) (is : k.history.future ≡ e ∷ es)
-      → Answers (redo_step (machine_of k) at (machine_of k).future) bytes 0 (Ok Quiet) (redone k h v e es is) bytes 0
-  redo_answers e es is = subst (λ (xs : List Moment). Answers (redo_step (machine_of k) at xs) bytes 0 (Ok Quiet) (redone k h v e es is) bytes 0)
-      (sym (redone_future k h v e es is))
-      (record {
-        turn = refl;
-        kept = redone_kept k h v e es is;
-        machine = λ i. record (machine_of (redone k h v e es is)) { past = redone_past k h v e es is i };
-        bytes = sym (append-nil bytes);
-        units = refl;
-      })
+-- a refusal that leaves the history as it was
+module _ (k : Kept) (h : IsKept k) where
+  pub unmoved : (s : Step) (r : Refusal) (bytes : List ℕ) (history : History) (told : Result Turn AllocError) (bytes' : List ℕ) → s ≡ refused (machine_of k) r
+      → history ≡ k.history → OnOk told (bytes' ≡ bytes ++ refusal_line r) → IfOk told (λ t. t ≡ Refused r.code)
+      → Answers s bytes 0 told (record k { history = history }) bytes' 0
+  unmoved s r bytes history told bytes' is same b t =
+      subst (λ (z : Step × History). Answers z.0 bytes 0 told (record k { history = z.1 }) bytes' 0) (λ i. (sym is i, sym same i))
+      (refused_answers (machine_of k) r 0 bytes 0 told k bytes' 0 b t h refl refl)

@@ -1,5 +1,6 @@
 -- What is kept of a machine: one state, and changes.
-use Rattle.std.specs.Prelude.{◌≡◌, List, ◌∷◌, ◌++◌, All, map}
+use Rattle.std.specs.Prelude.{◌≡◌, List, ◌∷◌, ◌++◌, All, length, map}
+use Rattle.invariant_cache.specs.Counts.{StandsFor}
 use Rattle.object_state.specs.Layouts.{layout_of}
 use Rattle.object_state.specs.State.{State}
 use Rattle.soil_exec.specs.Typed.{IsTyped}
@@ -26,3 +27,5 @@ pub record IsKept (k : Kept) : Type 0 where
   pub past : LeadHere k.store.layout k.store.state k.history.past
   pub types : All (IsTyped k.program.model) (states (machine_of k))
   pub future : LeadOn k.store.layout k.store.state k.history.future
+  pub structure : StandsFor k.program.model k.structure k.store.state
+  pub cache : length k.program.invariants ≡ k.cache

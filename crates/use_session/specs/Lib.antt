@@ -1,3 +1,4 @@
+pub mod FileWords
 pub mod Commands
 pub mod Readings
 pub mod Shell
@@ -6,6 +7,7 @@ pub mod Running
 pub mod Moments
 pub mod Resetting
 pub mod Answers
+pub mod Reports
 pub mod Machine
 pub mod Kept
 pub mod Answering

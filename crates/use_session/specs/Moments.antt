@@ -1,11 +1,9 @@
 -- States that changes lead from, and to.
-use Rattle.std.specs.Prelude.{⊤, List, [], ◌∷◌, fold}
+use Rattle.std.specs.Prelude.{⊤, List, [], ◌∷◌}
 use Rattle.object_state.specs.declared.change.Change.{Change}
 use Rattle.object_state.specs.declared.layout.Layout.{Layout}
-use Rattle.object_state.specs.Changes.{apply}
-use Rattle.object_state.specs.Faults.{Fits}
 use Rattle.object_state.specs.State.{State}
-use Rattle.soil_changes.specs.Progress.{CanBeTakenBack, taken_back}
+use Rattle.entry_states.specs.Leading.{CanBeCarriedOut, CanBeTakenBack, led_on, taken_back}
 use Rattle.undo_log.specs.declared.entry.Entry.{Entry}
 
 -- a state, and the changes between it and the one that is nearer to the present
@@ -15,15 +13,6 @@ pub record Moment : Type 0 where
 
 abbrev pub moment : State → List Change → Moment
 moment s cs = record { state = s; changes = cs }
-
--- the state after some changes
-abbrev pub led_on : Layout → State → List Change → State
-led_on l s cs = fold (apply l) s cs
-
--- each of which fits in its turn
-abbrev pub CanBeCarriedOut : Layout → State → List Change → Type 0
-CanBeCarriedOut l s [] = ⊤
-CanBeCarriedOut l s (c ∷ cs) = Fits l s c × CanBeCarriedOut l (apply l s c) cs
 
 -- the states before entries, the newest first
 abbrev pub past_of : Layout → State → List Entry → List Moment

@@ -1,5 +1,5 @@
--- The checked commands whose forms are not built yet: calls of operations, `openter`, `opexit`, `check`, views, `quit`, explained queries, and
--- some topics of `info`.
+-- The checked commands whose forms are not built yet: calls of operations, `openter`, `opexit`, views, explained queries, and some
+-- topics of `info`.
 use Rattle.std.specs.Prelude.{ℕ, zero, suc, Bool, true, false, ◌||◌, List}
 use Rattle.std.specs.List.{list_any}
 use Rattle.ocl_core.specs.declared.statement.Act.{Act, out-Act}
@@ -43,11 +43,11 @@ is_unbuilt (c.Explain e t shell) = true
 is_unbuilt (c.Statements body shell) = has_call body
 is_unbuilt (c.Enter receiver op args shell) = true
 is_unbuilt (c.Exit value shell) = true
-is_unbuilt (c.Check detail) = true
+is_unbuilt (c.Check detail) = false
 is_unbuilt (c.Info t) = is_unbuilt_topic t
 is_unbuilt c.Undo = false
 is_unbuilt c.Redo = false
 is_unbuilt c.Reset = false
 is_unbuilt (c.Show number) = true
 is_unbuilt (c.Drop number) = true
-is_unbuilt c.Quit = true
+is_unbuilt c.Quit = false

@@ -1,4 +1,6 @@
-ghost use Rattle.std.specs.Prelude.{ℕ, List, ◌≡◌, ◌+◌, ◌++◌, [], ◌∷◌, All, IfOk, OnOk, length, map, take, None, Ok};
+ghost use Rattle.std.specs.Prelude.{ℕ, List, ◌≡◌, ◌+◌, ◌++◌, [], ◌∷◌, All, IfOk, OnOk, length, map, take, true, None, Ok};
+ghost use Rattle.use_text.specs.Cuts.{IsCommand};
+ghost use Rattle.use_text.specs.Limits.{max_lines};
 ghost use Rattle.use_text.specs.Tokens.{IsWithin};
 ghost use Rattle.grammar_core.specs.Arena.{root_tree};
 ghost use Rattle.ocl_core.specs.Trees.{IsSound};
@@ -8,20 +10,26 @@ ghost use Rattle.ocl_rules.specs.Typings.{Tells};
 ghost use Rattle.soil_check.specs.Checks.{AreNames, IsTopicOf};
 ghost use Rattle.soil_check.specs.Commands.{command_in};
 ghost use Rattle.soil_exec.specs.Machine.{shell_value};
+ghost use Rattle.undo_log.specs.declared.frame_move.FrameMove.TheVariants as moves;
 ghost use Rattle.use_session.specs.Answering.{Answers, TellsFault};
 ghost use Rattle.use_session.specs.Answers.{info_text};
 ghost use Rattle.use_session.specs.Kept.{IsKept, machine_of};
-ghost use Rattle.use_session.specs.Machine.{accepted, answered, carried_out, counts, execute, query, redone, reset, scene, silent, start, undone};
+ghost use Rattle.use_session.specs.FileWords.{file_name, first_place, is_open, judged};
+ghost use Rattle.use_session.specs.Machine.{accepted, answered, carried_out, counts, check_step, execute, opened, query, redone, reset, scene, silent, start, turn_of_check, undone};
 ghost use Rattle.use_session.specs.Running.{MayRun};
 ghost use Rattle.use_session.specs.Shell.{known};
 ghost use Rattle.use_session.specs.declared.session.Turn.TheVariants as turn;
 
 use crate::answers::{append_value_line, refuse, refuse_at};
+use crate::file_word::{file_name, first_place, judged};
 use crate::moments::{carry_out_again, take_back};
+use crate::noting::{note_all, note_all_back};
+use crate::report::{append_check, finds_nothing};
 use crate::resetting::clear;
 use crate::unbuilt::is_unbuilt;
 use crate::{Start, StoreScope, Turn};
 use class_model::OclType;
+use invariant_cache::{Cache, Structure};
 use object_referrers::ReferrerStore;
 use object_state::{Cells, Change, Layout, StateReader};
 use ocl_core::{Expr, Stmt};
@@ -32,12 +40,12 @@ use soil_check::{Checked, Topic, TypeFault, check_command};
 use soil_exec::{ExecFault, environment, execute};
 use std::alloc::{AllocError, Global};
 use std::sync::ledger::Ledger;
-use undo_log::{Entry, History};
+use undo_log::{Entry, FrameMove, History};
 use use_info::{append_class, append_model, append_state, append_variables};
 use use_lists::Items;
 use use_steps::Steps;
 use use_syntax::Parsed;
-use use_text::{Code, Family, Place};
+use use_text::{Code, Cut, Family, Place};
 
 /// The most commands that can be taken back.
 const MAX_HISTORY: u32 = 1_000;
@@ -60,22 +68,28 @@ const U2: Code = Code {
     number: 2,
 };
 
-/// What a session keeps from one command to the next: the model's program, one store, and the changes
-/// that lead from its state to those before and after.
+/// What a session keeps from one command to the next: the model's program, one store with the
+/// multiplicities that its state breaks, the changes that lead from its state to those before and after,
+/// and what is known of the invariants.
 #[derive(Drop)]
 pub(crate) struct Machine {
     pub(crate) alloc: Global,
     program: Program,
     store: ReferrerStore,
+    structure: Structure,
     history: History,
+    cache: Cache,
 }
 
 /// Keeps the changes of an accepted command. What could be carried out again is forgotten.
 fn keep(history: &mut History, changes: Items<Change>)
-    ensures { history.new ≡ record history.old { past = take history.old.capacity (record { changes = changes } ∷ history.old.past); future = [] } }
+    ensures { history.new ≡ record history.old { past = take history.old.capacity (record { changes = changes; moved = moves.Stay } ∷ history.old.past); future = [] } }
 {
     history.forget_forward();
-    history.keep(Entry { changes });
+    history.keep(Entry {
+        changes,
+        moved: FrameMove::Stay,
+    });
 }
 
 /// Tells why statements are refused.
@@ -88,6 +102,17 @@ fn tell(fault: ExecFault, out: &mut Vec<u8>) -> Result<Turn, AllocError>
     }
 }
 
+/// How a check ends.
+fn turn_of_check(nothing_found: bool) -> Turn
+    ensures { result ≡ turn_of_check nothing_found }
+{
+    if nothing_found {
+        Turn::Quiet
+    } else {
+        Turn::CheckFailed
+    }
+}
+
 impl Machine {
     /// The machine before the first command.
     pub(crate) fn new(alloc: Global, program: Program) -> Result<Machine, AllocError>
@@ -95,11 +120,14 @@ impl Machine {
         ensures machine { IfOk result (λ m. machine_of m ≡ start program) }
     {
         let layout = Layout::of(alloc, program.model())?;
+        let cache = Cache::new(&program);
         Ok(Machine {
             alloc,
             program,
             store: ReferrerStore::new(alloc, layout),
+            structure: Structure::new(alloc),
             history: History::new(alloc, MAX_HISTORY)?,
+            cache,
         })
     }
 
@@ -204,6 +232,8 @@ impl Machine {
         match done {
             Err(fault) => tell(fault, out),
             Ok(changes) => {
+                let model = self.program.model();
+                note_all(model, &mut self.structure, changes.as_slice())?;
                 keep(&mut self.history, changes);
                 Ok(Turn::Quiet)
             }
@@ -226,6 +256,32 @@ impl Machine {
         }
     }
 
+    /// `check`
+    fn judge<L: Ledger>(
+        &mut self,
+        detail: bool,
+        out: &mut Vec<u8>,
+        steps: &mut Steps<L>,
+    ) -> Result<Turn, AllocError>
+        requires { IsKept self.old }
+        ensures { Answers (check_step (machine_of self.old) detail) out.old.items steps.old result self.new out.new.items steps.new }
+    {
+        let broken = self.structure.violations(self.alloc)?;
+        let report = self
+            .cache
+            .refresh::<L, ReferrerStore>(self.alloc, &self.program, &self.store, steps)?;
+        append_check(
+            self.alloc,
+            &self.program,
+            &self.store,
+            detail,
+            broken.as_slice(),
+            &report,
+            out,
+        )?;
+        Ok(turn_of_check(finds_nothing(broken.as_slice(), &report)))
+    }
+
     /// `info`
     fn info(&self, topic: Topic, out: &mut Vec<u8>) -> Result<Turn, AllocError>
         requires topic { IsTopicOf self.now.program.model topic }
@@ -234,6 +290,25 @@ impl Machine {
     {
         self.append_info(topic, out)?;
         Ok(Turn::Quiet)
+    }
+
+    /// `open F`
+    pub(crate) fn open_file(&self, cut: &Cut, out: &mut Vec<u8>) -> Result<Turn, AllocError>
+        requires opens { is_open cut.now ≡ true }
+        requires command { IsCommand max_lines cut.now }
+        requires kept { IsKept self.now }
+        ensures { Answers (opened (machine_of self.now) (first_place cut.now.first_line cut.now.text) (judged (file_name cut.now.text))) out.old.items 0 result
+            self.now out.new.items 0 }
+    {
+        let text = cut.text.as_slice();
+        let place = first_place(cut.first_line, text);
+        match judged(file_name(text)) {
+            Err(code) => refuse_at(code, place, out),
+            Ok(name) => {
+                let name = Text::copy_of(self.alloc, name)?;
+                Ok(Turn::Fetch { name, place })
+            }
+        }
     }
 
     /// `undo`
@@ -245,8 +320,14 @@ impl Machine {
         match self.history.step_back() {
             None => refuse_at(U1, place, out),
             Some(entry) => {
-                let changes = take_back(self.alloc, &mut self.store, entry.changes)?;
-                self.history.put_forward(Entry { changes });
+                let Entry { changes, moved } = entry;
+                let again = take_back(self.alloc, &mut self.store, changes)?;
+                let model = self.program.model();
+                note_all_back(model, &mut self.structure, again.as_slice())?;
+                self.history.put_forward(Entry {
+                    changes: again,
+                    moved,
+                });
                 Ok(Turn::Quiet)
             }
         }
@@ -261,8 +342,14 @@ impl Machine {
         match self.history.step_forward() {
             None => refuse_at(U2, place, out),
             Some(entry) => {
-                let changes = carry_out_again(self.alloc, &mut self.store, entry.changes)?;
-                self.history.put_back(Entry { changes });
+                let Entry { changes, moved } = entry;
+                let again = carry_out_again(self.alloc, &mut self.store, changes)?;
+                let model = self.program.model();
+                note_all(model, &mut self.structure, again.as_slice())?;
+                self.history.put_back(Entry {
+                    changes: again,
+                    moved,
+                });
                 Ok(Turn::Quiet)
             }
         }
@@ -275,7 +362,9 @@ impl Machine {
     {
         self.program.model().has_numbers_in_range();
         self.store.state_is_valid();
-        clear(self.alloc, &mut self.store)?;
+        let gone = clear(self.alloc, &mut self.store)?;
+        let model = self.program.model();
+        note_all(model, &mut self.structure, gone.as_slice())?;
         self.history.clear();
         Ok(Turn::Quiet)
     }
@@ -301,10 +390,12 @@ impl Machine {
             Checked::Statements { body, shell } => {
                 self.carry_out(body.as_slice(), shell, out, steps)
             }
+            Checked::Check { detail } => self.judge(detail, out, steps),
             Checked::Info(topic) => self.info(topic, out),
             Checked::Undo => self.undo(at.first, out),
             Checked::Redo => self.redo(at.first, out),
             Checked::Reset => self.reset(),
+            Checked::Quit => Ok(Turn::Quit),
             _ => Ok(Turn::Quiet),
         }
     }

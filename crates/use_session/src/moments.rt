@@ -1,8 +1,8 @@
 ghost use Rattle.std.specs.Prelude.{◌≡◌, IfOk, OnOk};
 ghost use Rattle.object_state.specs.Changes.{apply, inverse};
 ghost use Rattle.object_state.specs.Faults.{Fits};
-ghost use Rattle.soil_changes.specs.Progress.{CanBeTakenBack, taken_back};
-ghost use Rattle.use_session.specs.Moments.{CanBeCarriedOut, led_on};
+ghost use Rattle.entry_states.specs.Leading.{CanBeTakenBack, taken_back};
+ghost use Rattle.entry_states.specs.Leading.{CanBeCarriedOut, led_on};
 
 use object_referrers::ReferrerStore;
 use object_state::Change;

@@ -6,10 +6,9 @@ ghost use Rattle.use_text.specs.Refusals.{refusal_at};
 ghost use Rattle.use_text.specs.Tokens.{IsWithin};
 ghost use Rattle.use_syntax.specs.Language.{language};
 ghost use Rattle.use_syntax.specs.Reading.{read_command};
-ghost use Rattle.use_session.specs.Commands.{reading_of, reading_of_text};
+ghost use Rattle.use_session.specs.Commands.{reading_of};
 ghost use Rattle.use_session.specs.Readings.{Reads};
 
-use crate::file_word::{first_place, opens_file};
 use grammar_core::Grammar;
 use std::alloc::{AllocError, Global};
 use use_syntax::{Parsed, Reader, SyntaxFault, TokenTree};
@@ -20,7 +19,7 @@ use use_text::{Bytes, Code, Cut, Fate, Place, Refusal};
 pub(crate) enum Reading {
     /// Its tree, its tokens and its text.
     Parsed(Parsed),
-    /// It breaks a rule of cuts, tokens or grammar, or names a file, which is not built yet.
+    /// It breaks a rule of cuts, tokens or grammar.
     Refused(Refusal),
 }
 
@@ -48,7 +47,7 @@ fn with_text(alloc: Global, text: &[u8], read: TokenTree) -> Result<Parsed, Allo
     })
 }
 
-fn read_parsed(
+fn read_text(
     alloc: Global,
     reader: &mut Reader,
     grammar: &Grammar,
@@ -67,29 +66,7 @@ fn read_parsed(
     }
 }
 
-fn read_text(
-    alloc: Global,
-    reader: &mut Reader,
-    grammar: &Grammar,
-    text: &[u8],
-    line: u32,
-) -> Result<Reading, AllocError>
-    requires table { grammar.now ≡ language }
-    requires text { length text.now ≤ max_command }
-    requires line { line ≤ max_lines }
-    ensures { IfOk result (Reads text.now (reading_of_text line text.now)) }
-{
-    if opens_file(text) {
-        Ok(Reading::Refused(Refusal {
-            code: Code::S0,
-            place: first_place(line, text),
-        }))
-    } else {
-        read_parsed(alloc, reader, grammar, text, line)
-    }
-}
-
-/// Reads a command of the stream.
+/// Reads a command of the stream that opens no file.
 pub(crate) fn read_cut(
     alloc: Global,
     reader: &mut Reader,

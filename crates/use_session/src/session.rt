@@ -6,15 +6,18 @@ ghost use Rattle.grammar_core.specs.Arena.{root_tree};
 ghost use Rattle.use_syntax.specs.Language.{language};
 ghost use Rattle.use_syntax.specs.Reading.{parsed};
 ghost use Rattle.use_session.specs.Answering.{Answers};
+ghost use Rattle.use_session.specs.Commands.{reading_of};
 ghost use Rattle.use_session.specs.Kept.{IsKept, machine_of};
 ghost use Rattle.use_session.specs.Machine.{answered_reading, counts, start, step};
 
 use crate::Machine;
 use crate::answers::refuse;
+use crate::file_word::is_open;
 use crate::reading::{Reading, read_cut};
 use crate::starts::start_of;
 use grammar_core::Grammar;
 use ocl_program::Program;
+use ocl_values::Text;
 use soil_check::TypeFault;
 use std::alloc::{AllocError, Global};
 use std::marker::Model;
@@ -22,15 +25,21 @@ use std::sync::ledger::Ledger;
 use thiserror::Error;
 use use_steps::Steps;
 use use_syntax::{Parsed, Reader, TokenTree};
-use use_text::{Code, Cut};
+use use_text::{Code, Cut, Place};
 
 /// How a command ended.
-#[derive(Clone, Copy, Debug, PartialEq, Eq)]
+#[derive(Debug, PartialEq, Eq, Drop)]
 pub enum Turn {
     /// It was accepted.
     Quiet,
     /// It was refused, by this rule.
     Refused(Code),
+    /// It was a check that wrote a broken multiplicity, or a verdict that is not OK.
+    CheckFailed,
+    /// It asks for the commands of a file of this name, or for a refusal at this place.
+    Fetch { name: Text, place: Place },
+    /// It ends the run.
+    Quit,
 }
 
 /// Why a command was not answered.
@@ -77,7 +86,30 @@ fn answer_parsed<L: Ledger>(
     }
 }
 
-/// Reads a command, and answers it.
+/// Reads a command that opens no file, and answers it.
+fn answer_read<L: Ledger>(
+    machine: &mut Machine,
+    reader: &mut Reader,
+    grammar: &Grammar,
+    cut: &Cut,
+    out: &mut Vec<u8>,
+    steps: &mut Steps<L>,
+) -> Result<Turn, AllocError>
+    requires table { grammar.now ≡ language }
+    requires command { IsCommand max_lines cut.now }
+    requires kept { IsKept machine.old }
+    ensures { Answers (answered_reading (machine_of machine.old) cut.now.first_line cut.now.text (reading_of cut.now)) out.old.items steps.old
+        result machine.new out.new.items steps.new }
+{
+    match read_cut(machine.alloc, reader, grammar, cut)? {
+        Reading::Refused(refusal) => refuse(refusal, out),
+        Reading::Parsed(parsed) => {
+            answer_parsed(machine, reader, cut.first_line, parsed, out, steps)
+        }
+    }
+}
+
+/// Answers a command.
 fn answer<L: Ledger>(
     machine: &mut Machine,
     reader: &mut Reader,
@@ -91,11 +123,10 @@ fn answer<L: Ledger>(
     requires kept { IsKept machine.old }
     ensures { Answers (step (machine_of machine.old) cut.now) out.old.items steps.old result machine.new out.new.items steps.new }
 {
-    match read_cut(machine.alloc, reader, grammar, cut)? {
-        Reading::Refused(refusal) => refuse(refusal, out),
-        Reading::Parsed(parsed) => {
-            answer_parsed(machine, reader, cut.first_line, parsed, out, steps)
-        }
+    if is_open(cut) {
+        machine.open_file(cut, out)
+    } else {
+        answer_read(machine, reader, grammar, cut, out, steps)
     }
 }
 

@@ -60,16 +60,19 @@ pub(crate) fn is_unbuilt(command: &Checked) -> bool
     ensures { result ≡ is_unbuilt command.now }
 {
     match command {
-        Checked::Empty | Checked::Query { .. } | Checked::Undo | Checked::Redo | Checked::Reset =>
-            false,
+        Checked::Empty
+        | Checked::Query { .. }
+        | Checked::Check { .. }
+        | Checked::Undo
+        | Checked::Redo
+        | Checked::Reset
+        | Checked::Quit => false,
         Checked::Statements { body, .. } => has_call(body.as_slice()),
         Checked::Info(topic) => is_unbuilt_topic(*topic),
         Checked::Explain { .. }
         | Checked::Enter { .. }
         | Checked::Exit { .. }
-        | Checked::Check { .. }
         | Checked::Show(_)
-        | Checked::Drop(_)
-        | Checked::Quit => true,
+        | Checked::Drop(_) => true,
     }
 }

@@ -2,7 +2,7 @@ use Rattle.std.proofs.Common.{◌≡◌, List, [], ◌∷◌, ◌++◌, ap, sym,
 use Rattle.std.proofs.lemmas.List.{append_assoc, reverse-append}
 use Rattle.object_state.specs.declared.change.Change.{Change}
 use Rattle.object_state.specs.State.{Diagram}
-use Rattle.soil_changes.specs.Progress.{CanBeTakenBack, taken_back}
+use Rattle.entry_states.specs.Leading.{CanBeTakenBack, taken_back}
 use Rattle.soil_changes.proofs.Back.{back_less, fits_less, start_less}
 use Rattle.use_session.proofs.moments.take_back.Goals as goal
 

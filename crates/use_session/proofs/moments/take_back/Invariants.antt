@@ -1,5 +1,5 @@
 use Rattle.std.proofs.Common.{◌≡◌, ◌++◌, length, reverse}
-use Rattle.soil_changes.specs.Progress.{CanBeTakenBack, taken_back}
+use Rattle.entry_states.specs.Leading.{CanBeTakenBack, taken_back}
 use Rattle.use_session.proofs.moments.take_back.Given as goal
 
 abbrev pub invariant-back : goal.invariant-back

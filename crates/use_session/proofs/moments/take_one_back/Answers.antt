@@ -1,6 +1,6 @@
 use Rattle.std.proofs.Common.{ap, ◌∙◌}
 use Rattle.object_state.specs.Changes.{inverse}
-use Rattle.soil_changes.proofs.Back.{inverse_twice}
+use Rattle.entry_states.proofs.Led.{inverse_twice}
 use Rattle.use_session.proofs.Unlinked.{if_ok}
 use Rattle.use_session.proofs.moments.take_one_back.Goals as goal
 

@@ -1,6 +1,6 @@
 use Rattle.std.proofs.Common.{List, ap, sym, subst, ◌∙◌}
 use Rattle.object_state.specs.declared.change.Change.{Change}
-use Rattle.use_session.specs.Moments.{CanBeCarriedOut, led_on}
+use Rattle.entry_states.specs.Leading.{CanBeCarriedOut, led_on}
 use Rattle.use_session.proofs.Emptied.{all_go}
 use Rattle.use_session.proofs.Unlinked.{on_ok}
 use Rattle.use_session.proofs.resetting.clear.Goals as goal
