@@ -1,6 +1,12 @@
 pub mod MoveLemmas
 pub mod PlayLemmas
+pub mod ComeLemmas
+pub mod CommandLemmas
+pub mod WayLemmas
+pub mod StopLemmas
 pub mod LimitLemmas
 pub mod StreamLemmas
 pub mod SourceLemmas
+pub mod ToldLemmas
+pub mod WordLemmas
 pub mod Named

@@ -1,223 +1,216 @@
 -- What a run over a source did is what the definitions say of its whole input.
-use Rattle.std.proofs.Common.{◌≡◌, ℕ, ◌+◌, ◌<◌, ◌≤◌, Bool, true, false, List, ◌++◌, length, Option, Some, None, Result, Ok, Err, IfSome, IfOk, IsErr, IsErrOf, refl, sym, ap, ◌∙◌, subst, append_assoc, append-nil, length-append, ◌⊎◌, inl, inr, ⊎_elim, arith, if◌then◌else◌}
+use Rattle.std.proofs.Common.{◌≡◌, ℕ, ◌+◌, ◌<◌, ◌≤◌, Bool, true, false, List, ◌++◌, length, Option, Some, None, Result, Ok, Err, IfOk, IsErrOf, refl, sym, ap, ◌∙◌, subst, append_assoc, append-nil, length-append, ◌⊎◌, inl, inr, ⊎_elim, arith, if◌then◌else◌}
+use Rattle.std.specs.Io.KnownBytes.{Appends}
 use Rattle.use_io.specs.Shelves.{Files}
 use Rattle.use_text.specs.Cuts.{StaysEnded, ended, cuts}
 use Rattle.ocl_core.specs.declared.program.ProgramParts.{ProgramParts}
-use Rattle.use_session.specs.Machine.{start}
 use Rattle.use_shell.specs.declared.status.Status.{Status}
-use Rattle.use_shell.specs.declared.status.Status.TheVariants.{Done, Usage, ModelRefused, ReadFault, WriteFault, Memory, TooLong}
+use Rattle.use_shell.specs.declared.status.Status.TheVariants.{Done, TooLong, Strict}
 use Rattle.use_shell.specs.declared.stop.Stop.{Stop}
-use Rattle.use_shell.specs.declared.stop.Stop.TheVariants.{Read, Write, Memory as Wanting}
-use Rattle.use_shell.specs.Output.{Ending, ending, max_input, of_input_within, is_too_long, output, play, play_within}
-use Rattle.use_shell.specs.Endings.{AnswersTaken, AppendsFront, EndsWith, IsTaken}
-use Rattle.use_shell.specs.Finishes.{Finishes, FinishesTaken, IsPlayed, StopsByLength}
-use Rattle.use_shell.specs.Plays.{IsCutOff, IsEnded, IsPast, IsStopped, IsUnwritten, IsWhole, Streams}
-use Rattle.use_shell.proofs.MoveLemmas.{front_of_none}
-use Rattle.use_shell.proofs.LimitLemmas.{fronted, over_ending, past_ending, whole_ending, within_more}
-use Rattle.use_shell.proofs.PlayLemmas.{play_front, play_units}
+use Rattle.use_shell.specs.declared.stop.Stop.TheVariants.{Memory as Wanting}
+use Rattle.use_shell.specs.Output.{Ending, Setting, ending, max_input, of_input, is_too_long, play_from, play_within, read, read_status}
+use Rattle.use_shell.specs.Endings.{AnswersTaken, AppendsFront, EndsWith, IsReadOut, IsTaken, IsLong}
+use Rattle.use_shell.specs.Finishes.{CommandsEnd, IsPlayed}
+use Rattle.use_shell.specs.Plays.{IsCutOff, IsEnded, IsHalted, IsPast, IsWhole, Streams, given}
+use Rattle.use_shell.proofs.LimitLemmas.{over_ending, past_ending, whole_ending, within_more}
 
 regroup : (w x y z : List ℕ) → (w ++ (x ++ y)) ++ z ≡ (w ++ x) ++ (y ++ z)
 regroup w x y z = simp append_assoc
 
-module _ (p : ProgramParts) (limit : ℕ) where
-  abbrev Run : Option (List ℕ) → Option (List ℕ) → Option (List ℕ) → Result Status Stop → Type 0
-  Run left old new r = IfSome left (λ input. Finishes (of_input_within p limit input) old new r)
+-- a read status tells whether something failed
+strict_fails : (strict failed : Bool) → read_status strict failed ≡ Strict → failed ≡ true
+strict_fails true true h = refl
+strict_fails true false h = absurd (cc)
+strict_fails false failed h = absurd (cc)
 
-  -- no more units were counted than all commands of the input spend
-  abbrev pub Counts : Option (List ℕ) → ℕ → ℕ → Type 0
-  Counts left u w = IfSome left (λ input. w ≤ u + (of_input_within p limit input).units)
+done_passes : (strict failed : Bool) → read_status strict failed ≡ Done → strict ≡ true → failed ≡ false
+done_passes true false h k = refl
+done_passes true true h k = absurd (cc)
+done_passes false failed h k = absurd (cc)
 
-  -- how a run ended that was played to its end
-  ends_whole : (input ys : List ℕ) (old new : Option (List ℕ)) (u w : ℕ) (h : IsWhole p limit (Some input) (Some ys) old new u w)
-      → ending (play (start p) (cuts h.taken)) Done ≡ of_input_within p limit input
-  ends_whole input ys old new u w h =
-      let all : h.taken ≡ input = sym (h.from ∙ ap (λ l. h.taken ++ l) h.end ∙ append-nil h.taken) in
-      sym (whole_ending p limit h.taken h.within) ∙ ap (of_input_within p limit) all
+read_is_short : (strict failed : Bool) → read_status strict failed ≡ TooLong → ⊥
+read_is_short true true h = cc
+read_is_short true false h = cc
+read_is_short false failed h = cc
 
-  ends_over : StaysEnded → (input ys : List ℕ) (old new : Option (List ℕ)) (u w : ℕ) (h : IsEnded p limit (Some input) (Some ys) old new u w)
-      → ending (play (start p) (ended (h.before ++ h.front))) Done ≡ of_input_within p limit input
-  ends_over stays input ys old new u w h =
-      let all : (h.before ++ h.front) ++ (h.rest ++ ys) ≡ input = sym (h.taken ∙ regroup h.before h.front h.rest ys) in
-      sym (over_ending p stays limit (h.before ++ h.front) (h.rest ++ ys) h.within h.over) ∙ ap (of_input_within p limit) all
+not_read : (status : Status) → TooLong ≡ status → IsReadOut status → ⊥
+not_read status is out = subst IsReadOut (sym is) out
 
-  ends_past : (input ys : List ℕ) (old new : Option (List ℕ)) (u w : ℕ) (h : IsPast p limit (Some input) (Some ys) old new u w)
-      → ending (play_within p limit h.taken) TooLong ≡ of_input_within p limit input
-  ends_past input ys old new u w h =
-      let more = within_more p limit h.taken ys h.past in
-      let long : limit < length (h.taken ++ ys) = omega (arith, h.past, length-append h.taken ys) in
-      let goes : (play_within p limit (h.taken ++ ys)).over ≡ false = ap (λ q. q.over) more ∙ h.goes_on in
-      ap (λ q. ending q TooLong) (sym more) ∙ sym (past_ending p limit (h.taken ++ ys) long goes) ∙ ap (of_input_within p limit) (sym h.from)
+-- what a status says of the input
+record Says (input : List ℕ) (status : Status) (s : Setting) : Type 0 where
+  too_long : status ≡ TooLong → is_too_long s max_input input ≡ true
+  within : IsReadOut status → is_too_long s max_input input ≡ false
+  failed : status ≡ Strict → (play_from s (cuts input)).failed ≡ true
+  not_failed : status ≡ Done → s.strict ≡ true → (play_from s (cuts input)).failed ≡ false
 
-  done_whole : (left now old new : Option (List ℕ)) (u w : ℕ) → IsWhole p limit left now old new u w → Run left old new (Ok Done)
-  done_whole None now old new u w h = tt
-  done_whole (Some input) None old new u w h = absurd h.from
-  done_whole (Some input) (Some ys) old new u w h =
-      subst (λ e. EndsWith e Done old new) (ends_whole input ys old new u w h) (record { same = refl; written = h.written })
+says : (input : List ℕ) (status : Status) (s : Setting) → (of_input s input).status ≡ status → Says input status s
+says input status s same = by_test (is_too_long s max_input input) refl same
+  where
+    by_test : (t : Bool) → is_too_long s max_input input ≡ t
+        → (if t then ending (play_within s max_input input) TooLong else read s (play_from s (cuts input))).status ≡ status → Says input status s
+    by_test true is h = record {
+      too_long = λ k. is;
+      within = λ k. absurd (not_read status h k);
+      failed = λ k. absurd (cc);
+      not_failed = λ k l. absurd (cc);
+    }
+    by_test false is h = record {
+      too_long = λ k. absurd (read_is_short s.strict (play_from s (cuts input)).failed (h ∙ k));
+      within = λ k. is;
+      failed = λ k. strict_fails s.strict (play_from s (cuts input)).failed (h ∙ k);
+      not_failed = λ k l. done_passes s.strict (play_from s (cuts input)).failed (h ∙ k) l;
+    }
 
-  done_ended : StaysEnded → (left now old new : Option (List ℕ)) (u w : ℕ) → IsEnded p limit left now old new u w → Run left old new (Ok Done)
-  done_ended stays None now old new u w h = tt
-  done_ended stays (Some input) None old new u w h = absurd h.taken
-  done_ended stays (Some input) (Some ys) old new u w h =
-      subst (λ e. EndsWith e Done old new) (ends_over stays input ys old new u w h) (record { same = refl; written = h.written })
-
-  past_run : (left now old new : Option (List ℕ)) (u w : ℕ) → IsPast p limit left now old new u w → Run left old new (Ok TooLong)
-  past_run None now old new u w h = tt
-  past_run (Some input) None old new u w h = absurd h.from
-  past_run (Some input) (Some ys) old new u w h =
-      subst (λ e. EndsWith e TooLong old new) (ends_past input ys old new u w h) (record { same = refl; written = h.written })
-
-  cut_run : StaysEnded → (left now old new : Option (List ℕ)) (u w : ℕ) → IsCutOff p limit left now old new u w → Run left old new (Err Read)
-  cut_run stays None now old new u w h = tt
-  cut_run stays (Some input) None old new u w h = absurd h.from
-  cut_run stays (Some input) (Some ys) old new u w h =
-      let more = fronted p stays limit h.taken ys h.within in
-      let longer = play_front (start p) (ended h.taken) more.0 in
+module _ (s : Setting) where
+  -- a run that ended by what the machine says of the input
+  by_ending : (input : List ℕ) (now old new : Option (List ℕ)) (u w : ℕ) (e : Ending) (status : Status) → e ≡ of_input s input → e.status ≡ status
+      → Appends old new e.bytes → w ≡ u + e.units → (IsReadOut status → IsTaken (Some input) now s)
+      → CommandsEnd (Some input) now old new u w (Ok status) s
+  by_ending input now old new u w e status is same written counted taken =
+      let all = says input status s (ap (λ (x : Ending). x.status) (sym is) ∙ same) in
+      let units : e.units ≡ (of_input s input).units = ap (λ (x : Ending). x.units) is in
       record {
-        front = (play (start p) (ended h.taken)).bytes;
-        rest = longer.0;
-        whole = ap (λ l. (of_input_within p limit l).bytes) h.from ∙ more.1 ∙ longer.1;
-        written = h.written;
+        bytes = subst (λ (x : Ending). EndsWith x status old new) is (record { same = same; written = written });
+        too_long = all.too_long;
+        within = all.within;
+        failed = all.failed;
+        not_failed = all.not_failed;
+        taken = taken;
+        units = inr (omega (arith, counted, units));
       }
 
-  stopped_run : (left now old new : Option (List ℕ)) (stop : Stop) → IsStopped p limit left now old new → Run left old new (Err stop)
-  stopped_run None now old new stop h = tt
-  stopped_run (Some input) None old new stop h = absurd h.from
-  stopped_run (Some input) (Some ys) old new stop h = subst (λ l. AppendsFront old new (of_input_within p limit l).bytes) (sym h.from) (h.written ys refl)
+  untold : (now old new : Option (List ℕ)) (u w : ℕ) (status : Status) → (IsReadOut status → IsTaken None now s)
+      → CommandsEnd None now old new u w (Ok status) s
+  untold now old new u w status taken = record {
+    bytes = tt;
+    too_long = λ k. tt;
+    within = λ k. tt;
+    failed = λ k. tt;
+    not_failed = λ k l. tt;
+    taken = taken;
+    units = inr tt;
+  }
 
-  pub streamed : StaysEnded → (left now old new : Option (List ℕ)) (u w : ℕ) (r : Result Status Stop) → Streams p limit left now old new u w r
-      → Run left old new r
-  streamed stays left now old new u w (Ok Done) h = ⊎_elim (done_whole left now old new u w) (done_ended stays left now old new u w) h
-  streamed stays left now old new u w (Ok TooLong) h = past_run left now old new u w h
-  streamed stays left now old new u w (Ok Usage) h = absurd h
-  streamed stays left now old new u w (Ok ModelRefused) h = absurd h
-  streamed stays left now old new u w (Ok ReadFault) h = absurd h
-  streamed stays left now old new u w (Ok WriteFault) h = absurd h
-  streamed stays left now old new u w (Ok Memory) h = absurd h
-  streamed stays left now old new u w (Err Read) h = cut_run stays left now old new u w h
-  streamed stays left now old new u w (Err Write) h = stopped_run left now old new Write h.stopped
-  streamed stays left now old new u w (Err Wanting) h = stopped_run left now old new Wanting h
+units_of : (stop : Stop) (w m n : ℕ) → m ≡ n → (stop ≡ Wanting) ⊎ (w ≤ m) → IsErrOf {T = Status} (Err stop) Wanting ⊎ w ≤ n
+units_of stop w m n same (inl wanting) = inl (ap Err wanting)
+units_of stop w m n same (inr le) = inr (omega (arith, le, same))
 
-  -- the units that were counted
-  whole_counts : (left now old new : Option (List ℕ)) (u w : ℕ) → IsWhole p limit left now old new u w → Counts left u w
-  whole_counts None now old new u w h = tt
-  whole_counts (Some input) None old new u w h = absurd h.from
-  whole_counts (Some input) (Some ys) old new u w h =
-      let e : (play (start p) (cuts h.taken)).units ≡ (of_input_within p limit input).units = ap (λ (e : Ending). e.units)
-      (ends_whole input ys old new u w h) in
-      omega (arith, e, h.units)
+module _ (files : Option Files) (p : ProgramParts) (echo strict : Bool) (held : Files) (told : files ≡ Some held) where
+  abbrev s : Files → Setting
+  s o = given p echo strict o
 
-  ended_counts : StaysEnded → (left now old new : Option (List ℕ)) (u w : ℕ) → IsEnded p limit left now old new u w → Counts left u w
-  ended_counts stays None now old new u w h = tt
-  ended_counts stays (Some input) None old new u w h = absurd h.taken
-  ended_counts stays (Some input) (Some ys) old new u w h =
-      let e : (play (start p) (ended (h.before ++ h.front))).units ≡ (of_input_within p limit input).units = ap (λ (e : Ending). e.units)
-      (ends_over stays input ys old new u w h) in
-      omega (arith, e, h.units)
+  whole_run : (left now old new : Option (List ℕ)) (u w : ℕ) (failed : Bool) (status : Status) → status ≡ read_status strict failed
+      → IsWhole files s max_input failed left now old new u w → CommandsEnd left now old new u w (Ok status) (s held)
+  whole_run None now old new u w failed status is h = untold (s held) now old new u w status (λ k. inl h.end)
+  whole_run (Some input) None old new u w failed status is h = absurd h.from
+  whole_run (Some input) (Some ys) old new u w failed status is h =
+      let done = h.wrote held told in
+      let q = play_from (s held) (cuts h.taken) in
+      let all : h.taken ≡ input = sym (h.from ∙ ap (λ l. h.taken ++ l) h.end ∙ append-nil h.taken) in
+      by_ending (s held) input (Some ys) old new u w (read (s held) q) status
+      (sym (whole_ending (s held) max_input h.taken h.within) ∙ ap (of_input (s held)) all)
+      (ap (read_status strict) (sym done.same) ∙ sym is) done.written done.units (λ k. inl h.end)
 
-  past_counts : (left now old new : Option (List ℕ)) (u w : ℕ) → IsPast p limit left now old new u w → Counts left u w
-  past_counts None now old new u w h = tt
-  past_counts (Some input) None old new u w h = absurd h.from
-  past_counts (Some input) (Some ys) old new u w h =
-      let e : (play_within p limit h.taken).units ≡ (of_input_within p limit input).units = ap (λ (e : Ending). e.units) (ends_past input ys old new u w h) in
-      omega (arith, e, h.units)
+  ended_run : StaysEnded → (left now old new : Option (List ℕ)) (u w : ℕ) (failed : Bool) (status : Status) → status ≡ read_status strict failed
+      → IsEnded files s max_input failed left now old new u w → CommandsEnd left now old new u w (Ok status) (s held)
+  ended_run stays None now old new u w failed status is h =
+      let over = h.over held told in
+      untold (s held) now old new u w status (λ k. inr (record {
+        before = h.before;
+        front = h.front;
+        rest = h.rest;
+        taken = h.taken;
+        goes_on = over.goes_on;
+        over = over.over;
+      }))
+  ended_run stays (Some input) None old new u w failed status is h = absurd h.taken
+  ended_run stays (Some input) (Some ys) old new u w failed status is h =
+      let over = h.over held told in
+      let q = play_from (s held) (ended (h.before ++ h.front)) in
+      let all : (h.before ++ h.front) ++ (h.rest ++ ys) ≡ input = sym (h.taken ∙ regroup h.before h.front h.rest ys) in
+      by_ending (s held) input (Some ys) old new u w (read (s held) q) status
+      (sym (over_ending (s held) stays max_input (h.before ++ h.front) (h.rest ++ ys) h.within over.over) ∙ ap (of_input (s held)) all)
+      (ap (read_status strict) (sym over.wrote.same) ∙ sym is) over.wrote.written over.wrote.units (λ k. inr (record {
+        before = h.before;
+        front = h.front;
+        rest = h.rest;
+        taken = h.taken;
+        goes_on = over.goes_on;
+        over = over.over;
+      }))
 
-  cut_counts : StaysEnded → (left now old new : Option (List ℕ)) (u w : ℕ) → IsCutOff p limit left now old new u w → Counts left u w
-  cut_counts stays None now old new u w h = tt
-  cut_counts stays (Some input) None old new u w h = absurd h.from
-  cut_counts stays (Some input) (Some ys) old new u w h =
-      let more = fronted p stays limit h.taken ys h.within in
-      let e : (of_input_within p limit input).units ≡ (play (start p) (ended h.taken ++ more.0)).units = ap (λ l. (of_input_within p limit l).units) h.from
-      ∙ more.2 in
-      omega (arith, e, h.units, play_units (start p) (ended h.taken) more.0)
+  past_run : (left now old new : Option (List ℕ)) (u w : ℕ) (status : Status) → status ≡ TooLong → IsPast files s max_input left now old new u w
+      → CommandsEnd left now old new u w (Ok status) (s held)
+  past_run None now old new u w status is h = untold (s held) now old new u w status (λ k. absurd (not_read status (sym is) k))
+  past_run (Some input) None old new u w status is h = absurd h.from
+  past_run (Some input) (Some ys) old new u w status is h =
+      let goes = h.goes held told in
+      let more = within_more (s held) max_input h.taken ys h.past in
+      let long : max_input < length (h.taken ++ ys) = omega (arith, h.past, length-append h.taken ys) in
+      let on : (play_within (s held) max_input (h.taken ++ ys)).over ≡ false = ap (λ q. q.over) more ∙ goes.goes_on in
+      let e : ending (play_within (s held) max_input h.taken) TooLong ≡ of_input (s held) input = ap (λ q. ending q TooLong) (sym more)
+      ∙ sym (past_ending (s held) max_input (h.taken ++ ys) long on) ∙ ap (of_input (s held)) (sym h.from) in
+      by_ending (s held) input (Some ys) old new u w (ending (play_within (s held) max_input h.taken) TooLong) status e (sym is) goes.written goes.units
+      (λ k. absurd (not_read status (sym is) k))
 
-  unwritten_counts : (left now old new : Option (List ℕ)) (u w : ℕ) → IsUnwritten p limit left now old new u w → Counts left u w
-  unwritten_counts None now old new u w h = tt
-  unwritten_counts (Some input) None old new u w h = absurd h.stopped.from
-  unwritten_counts (Some input) (Some ys) old new u w h =
-      subst (λ l. w ≤ u + (of_input_within p limit l).units) (sym h.stopped.from) (h.units ys refl)
+  halted_run : (left now old new : Option (List ℕ)) (u w : ℕ) (stop : Stop) → IsHalted files s max_input left now old new u w stop
+      → CommandsEnd left now old new u w (Err stop) (s held)
+  halted_run None now old new u w stop h =
+      record { bytes = tt; too_long = tt; within = tt; failed = tt; not_failed = tt; taken = tt; units = inr tt }
+  halted_run (Some input) None old new u w stop h = absurd h.from
+  halted_run (Some input) (Some ys) old new u w stop h =
+      let k = h.front held told ys refl in
+      record {
+        bytes = subst (λ l. AppendsFront old new (of_input (s held) l).bytes) (sym h.from) k.front;
+        too_long = tt;
+        within = tt;
+        failed = tt;
+        not_failed = tt;
+        taken = tt;
+        units = units_of stop w (u + (of_input (s held) (h.taken ++ ys)).units) (u + (of_input (s held) input).units)
+            (ap (λ l. u + (of_input (s held) l).units) (sym h.from)) k.units;
+      }
 
-  pub run_units : StaysEnded → (left now old new : Option (List ℕ)) (u w : ℕ) (r : Result Status Stop) → Streams p limit left now old new u w r
-      → IsErrOf r Wanting ⊎ Counts left u w
-  run_units stays left now old new u w (Ok Done) h = inr (⊎_elim (whole_counts left now old new u w) (ended_counts stays left now old new u w) h)
-  run_units stays left now old new u w (Ok TooLong) h = inr (past_counts left now old new u w h)
-  run_units stays left now old new u w (Ok Usage) h = absurd h
-  run_units stays left now old new u w (Ok ModelRefused) h = absurd h
-  run_units stays left now old new u w (Ok ReadFault) h = absurd h
-  run_units stays left now old new u w (Ok WriteFault) h = absurd h
-  run_units stays left now old new u w (Ok Memory) h = absurd h
-  run_units stays left now old new u w (Err Read) h = inr (cut_counts stays left now old new u w h)
-  run_units stays left now old new u w (Err Write) h = inr (unwritten_counts left now old new u w h)
-  run_units stays left now old new u w (Err Wanting) h = inl refl
+  pub commands_end : StaysEnded → (left now old new : Option (List ℕ)) (u w : ℕ) (r : Result Status Stop)
+      → Streams files s strict max_input left now old new u w r → CommandsEnd left now old new u w r (s held)
+  commands_end stays left now old new u w (Ok status) h =
+      ⊎_elim (λ k. ⊎_elim (whole_run left now old new u w k.0 status k.1) (ended_run stays left now old new u w k.0 status k.1) k.2)
+      (λ k. past_run left now old new u w status k.0 k.1) h
+  commands_end stays left now old new u w (Err stop) h = halted_run left now old new u w stop h
 
-  -- whether the input is too long
-  pub record Length (left : Option (List ℕ)) (r : Result Status Stop) : Type 0 where
-    pub too_long : IfOk r (λ status. status ≡ TooLong → IfSome left (λ input. is_too_long p limit input ≡ true))
-    pub within : IfOk r (λ status. status ≡ Done → IfSome left (λ input. is_too_long p limit input ≡ false))
+  pub answers_taken : (left now old new : Option (List ℕ)) (u w : ℕ) → IsCutOff files s max_input left now old new u w
+      → AnswersTaken left now old new (s held)
+  answers_taken left now old new u w h = record { taken = h.taken; from = h.from; written = (h.answered held told).written }
 
-  status_by : (input : List ℕ) (status : Status) → (of_input_within p limit input).status ≡ status → Length (Some input) (Ok status)
-  status_by input status same = by_test (is_too_long p limit input) refl same
-    where
-      by_test : (t : Bool) → is_too_long p limit input ≡ t
-          → (if t then ending (play_within p limit input) TooLong else ending (play (start p) (cuts input)) Done).status ≡ status
-          → Length (Some input) (Ok status)
-      by_test true is h = record { too_long = λ k. is; within = λ k. absurd (cc) }
-      by_test false is h = record { too_long = λ k. absurd (cc); within = λ k. is }
+-- what is known of every run
+read_played : (strict failed : Bool) → IsPlayed (read_status strict failed)
+read_played true true = tt
+read_played true false = tt
+read_played false failed = tt
 
-  pub run_length : (left old new : Option (List ℕ)) (r : Result Status Stop) → Run left old new r → Length left r
-  run_length None old new (Ok status) h = record { too_long = λ k. tt; within = λ k. tt }
-  run_length None old new (Err stop) h = record { too_long = tt; within = tt }
-  run_length (Some input) old new (Ok status) h = status_by input status h.same
-  run_length (Some input) old new (Err stop) h = record { too_long = tt; within = tt }
+module _ (files : Option Files) (s : Files → Setting) (strict : Bool) (left now old new : Option (List ℕ)) (u w : ℕ) where
+  pub run_played : (r : Result Status Stop) → Streams files s strict max_input left now old new u w r → IfOk r IsPlayed
+  run_played (Ok status) h =
+      ⊎_elim (λ k. subst IsPlayed (sym k.1) (read_played strict k.0)) (λ k. subst IsPlayed (sym k.0) tt) h
+  run_played (Err stop) h = tt
 
-  pub run_played : (left now old new : Option (List ℕ)) (u w : ℕ) (r : Result Status Stop) → Streams p limit left now old new u w r → IfOk r IsPlayed
-  run_played left now old new u w (Ok Done) h = tt
-  run_played left now old new u w (Ok TooLong) h = tt
-  run_played left now old new u w (Ok Usage) h = h
-  run_played left now old new u w (Ok ModelRefused) h = h
-  run_played left now old new u w (Ok ReadFault) h = h
-  run_played left now old new u w (Ok WriteFault) h = h
-  run_played left now old new u w (Ok Memory) h = h
-  run_played left now old new u w (Err stop) h = tt
+  strict_asked : (t failed : Bool) → read_status t failed ≡ Strict → t ≡ true
+  strict_asked true failed h = refl
+  strict_asked false failed h = absurd (cc)
 
-  taken_by : (left now old new : Option (List ℕ)) (u w : ℕ) → IsWhole p limit left now old new u w ⊎ IsEnded p limit left now old new u w → IsTaken left now p
-  taken_by left now old new u w h =
-      ⊎_elim (λ w. inl w.end) (λ w. inr (record {
-        before = w.before;
-        front = w.front;
-        rest = w.rest;
-        taken = w.taken;
-        goes_on = w.goes_on;
-        over = w.over;
-      })) h
+  pub run_strict : (r : Result Status Stop) → Streams files s strict max_input left now old new u w r → IfOk r (λ status. status ≡ Strict → strict ≡ true)
+  run_strict (Ok status) h =
+      ⊎_elim (λ k is. strict_asked strict k.0 (sym k.1 ∙ is)) (λ k is. absurd (cc)) h
+  run_strict (Err stop) h = tt
 
-  pub run_taken : (left now old new : Option (List ℕ)) (u w : ℕ) (r : Result Status Stop) → Streams p limit left now old new u w r → FinishesTaken left now r p
-  run_taken left now old new u w (Ok Done) h = λ k. taken_by left now old new u w h
-  run_taken left now old new u w (Ok TooLong) h = λ k. absurd (cc)
-  run_taken left now old new u w (Ok Usage) h = absurd h
-  run_taken left now old new u w (Ok ModelRefused) h = absurd h
-  run_taken left now old new u w (Ok ReadFault) h = absurd h
-  run_taken left now old new u w (Ok WriteFault) h = absurd h
-  run_taken left now old new u w (Ok Memory) h = absurd h
-  run_taken left now old new u w (Err stop) h = tt
+  long_of : (l n : Option (List ℕ)) → IsPast files s max_input l n old new u w → IsLong l
+  long_of None n h = tt
+  long_of (Some input) None h = absurd h.from
+  long_of (Some input) (Some ys) h =
+      let is : length input ≡ length h.taken + length ys = ap length h.from ∙ length-append h.taken ys in
+      omega (arith, is, h.past)
 
-  pub run_fault : (left now old new : Option (List ℕ)) (u w : ℕ) (r : Result Status Stop) → Streams p limit left now old new u w r → r ≡ Err Read
-      → AnswersTaken left now old new p
-  run_fault left now old new u w (Err Read) h k = record { taken = h.taken; from = h.from; written = h.written }
-  run_fault left now old new u w (Err Write) h k = absurd (cc)
-  run_fault left now old new u w (Err Wanting) h k = absurd (cc)
-  run_fault left now old new u w (Ok status) h k = absurd (cc)
-
--- the same at the limit of the program
-pub stops_by_length : (p : ProgramParts) (left : Option (List ℕ)) (r : Result Status Stop) → Length p max_input left r → StopsByLength left r p
-stops_by_length p left r h = record { too_long = h.too_long; within = h.within }
-
--- a run that was stopped before it wrote
-stopped : (e : Ending) (a : Option (List ℕ)) (r : Result Status Stop) → IsErr r → Finishes e a a r
-stopped e a (Ok status) h = (cc)
-stopped e a (Err stop) h = front_of_none a e.bytes
-
-pub stopped_early : (files : Option Files) (left : Option (List ℕ)) (words : List (List ℕ)) (a : Option (List ℕ)) (r : Result Status Stop) → IsErr r
-    → IfSome files (λ held. IfSome left (λ input. Finishes (output words held input) a a r))
-stopped_early None left words a r h = tt
-stopped_early (Some held) None words a r h = tt
-stopped_early (Some held) (Some input) words a r h = stopped (output words held input) a r h
+  pub run_long : (r : Result Status Stop) → Streams files s strict max_input left now old new u w r → IfOk r (λ status. status ≡ TooLong → IsLong left)
+  run_long (Ok status) h =
+      ⊎_elim (λ k is. absurd (read_is_short strict k.0 (sym k.1 ∙ is))) (λ k is. long_of left now k.1) h
+  run_long (Err stop) h = tt

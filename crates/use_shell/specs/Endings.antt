@@ -1,15 +1,14 @@
 -- How a run ends, where source, sink and shelf tell their bytes, and what each answer's cause is.
-use Rattle.std.specs.Prelude.{ℕ, ◌≡◌, ◌≤◌, ◌+◌, ◌⊎◌, true, false, List, ◌++◌, Option, Some, None, IsSome, IfSome, ⊤}
+use Rattle.std.specs.Prelude.{ℕ, ◌≡◌, ◌<◌, ◌≤◌, ◌+◌, ◌⊎◌, true, false, List, ◌++◌, length, Option, Some, None, IsSome, IfSome, ⊤}
+use Rattle.std.specs.Option.{option_map}
 use Rattle.std.specs.Io.KnownBytes.{Appends, Consumes, IsAtEnd}
 use Rattle.use_io.specs.Causes.{Rose}
 use Rattle.use_io.specs.Shelves.{Files}
-use Rattle.use_text.specs.Cuts.{ended}
-use Rattle.ocl_core.specs.declared.program.ProgramParts.{ProgramParts}
-use Rattle.use_session.specs.Machine.{start}
+use Rattle.use_text.specs.Cuts.{cuts, ended}
 use Rattle.use_shell.specs.declared.status.Status.{Status}
-use Rattle.use_shell.specs.declared.status.Status.TheVariants.{Done, Usage, ModelRefused, ReadFault, WriteFault, Memory, TooLong}
-use Rattle.use_shell.specs.Words.{model_word}
-use Rattle.use_shell.specs.Output.{Ending, budget, max_input, play, is_too_long, program_for, refusal_for, output}
+use Rattle.use_shell.specs.declared.status.Status.TheVariants.{Done, Usage, ModelRefused, ReadFault, WriteFault, Memory, Strict}
+use Rattle.use_shell.specs.Output.{Ending, Setting, budget, is_too_long, max_input, output, play_from, refusal_for, setting_for}
+use Rattle.use_shell.specs.Words.{wanted}
 
 -- a front of the bytes was written
 pub record AppendsFront (old new : Option (List ℕ)) (bytes : List ℕ) : Type 0 where
@@ -25,17 +24,20 @@ pub record EndsWith (e : Ending) (status : Status) (old new : Option (List ℕ))
 
 -- a run ends with its whole output and the output's status, or after a front of it
 abbrev pub Ends : Ending → Option (List ℕ) → Option (List ℕ) → Status → Type 0
-Ends e old new Done = EndsWith e Done old new
-Ends e old new Usage = EndsWith e Usage old new
-Ends e old new ModelRefused = EndsWith e ModelRefused old new
-Ends e old new TooLong = EndsWith e TooLong old new
 Ends e old new ReadFault = AppendsFront old new e.bytes
 Ends e old new WriteFault = AppendsFront old new e.bytes
 Ends e old new Memory = AppendsFront old new e.bytes
+Ends e old new status = EndsWith e status old new
 
 -- the same, where shelf and source tell their bytes
 abbrev pub RunEnds : List (List ℕ) → Option Files → Option (List ℕ) → Option (List ℕ) → Option (List ℕ) → Status → Type 0
 RunEnds words files left old new status = IfSome files (λ held. IfSome left (λ input. Ends (output words held input) old new status))
+
+-- the input was read to its end, or to a command that ended the run
+abbrev pub IsReadOut : Status → Type 0
+IsReadOut Done = ⊤
+IsReadOut Strict = ⊤
+IsReadOut _ = ⊥
 
 -- how a run ends whose words are refused: so, or by a fault of its one write
 abbrev pub EndsByUsage : Status → Type 0
@@ -54,8 +56,8 @@ EndsByModel _ = ⊥
 
 -- Usage comes exactly where the words are refused, but for a fault of the write.
 pub record HasUsageCause (words : List (List ℕ)) (status : Status) : Type 0 where
-  pub only : status ≡ Usage → model_word words ≡ None
-  pub always : model_word words ≡ None → EndsByUsage status
+  pub only : status ≡ Usage → wanted words ≡ None
+  pub always : wanted words ≡ None → EndsByUsage status
 
 -- ModelRefused comes exactly where the words name a model that is refused, but for a fault before: of the shelf, of the one write, or want of
 -- memory. `before` and `now` count the shelf's faults.
@@ -64,18 +66,38 @@ pub record HasModelCause (words : List (List ℕ)) (before now : ℕ) (status : 
   pub always : IsSome (refusal_for words files) → EndsByModel status
   pub shelf : IsSome (refusal_for words files) → status ≡ ReadFault → Rose before now
 
--- The program that was played, of which something holds: that of the model which the words name, where the shelf tells its files.
-pub record OfProgram (words : List (List ℕ)) (files : Option Files) (Holds : ProgramParts → Type 0) : Type 0 where
-  pub program : ProgramParts
-  pub named : IfSome files (λ held. program_for words held ≡ Some program)
-  pub holds : Holds program
+-- What was played, of which something holds: for the words and the model that they name, where the shelf tells its files.
+pub record OfSetting (words : List (List ℕ)) (Holds : Setting → Type 0) (files : Files) : Type 0 where
+  pub setting : Setting
+  pub named : setting_for words files ≡ Some setting
+  pub holds : Holds setting
+
+abbrev pub WhereTold : List (List ℕ) → Option Files → (Setting → Type 0) → Type 0
+WhereTold words files Holds = IfSome files (OfSetting words Holds)
+
+-- the input is longer than an input may be, in every run whose source tells its bytes
+abbrev pub IsLong : Option (List ℕ) → Type 0
+IsLong left = IfSome left (λ input. max_input < length input)
 
 -- the input is too long, or it is not
-abbrev pub IsTooLong : Option (List ℕ) → ProgramParts → Type 0
-IsTooLong left p = IfSome left (λ input. is_too_long p max_input input ≡ true)
+abbrev pub IsTooLong : Option (List ℕ) → Setting → Type 0
+IsTooLong left s = IfSome left (λ input. is_too_long s max_input input ≡ true)
 
-abbrev pub IsWithinLimit : Option (List ℕ) → ProgramParts → Type 0
-IsWithinLimit left p = IfSome left (λ input. is_too_long p max_input input ≡ false)
+abbrev pub IsWithinLimit : Option (List ℕ) → Setting → Type 0
+IsWithinLimit left s = IfSome left (λ input. is_too_long s max_input input ≡ false)
+
+-- a command of the input was refused, or a check failed
+abbrev pub HasFailed : Option (List ℕ) → Setting → Type 0
+HasFailed left s = IfSome left (λ input. (play_from s (cuts input)).failed ≡ true)
+
+-- Strict comes only where it is asked for, and a command was refused or a check failed.
+pub record HasStrictCause (words : List (List ℕ)) (files : Option Files) (left : Option (List ℕ)) : Type 0 where
+  pub asked : option_map (λ a. a.strict) (wanted words) ≡ Some true
+  pub failed : WhereTold words files (HasFailed left)
+
+-- else no command was refused, and no check failed
+abbrev pub HasNotFailed : Option (List ℕ) → Setting → Type 0
+HasNotFailed left s = s.strict ≡ true → IfSome left (λ input. (play_from s (cuts input)).failed ≡ false)
 
 -- evaluations spent no more than the machine's do, where shelf and source tell their bytes
 abbrev pub IsWithinBudget : List (List ℕ) → Option Files → Option (List ℕ) → ℕ → ℕ → Type 0
@@ -97,26 +119,26 @@ RunIsComplete words files left status = IfSome files (λ held. IfSome left (λ i
 
 -- The source was taken to its end, or through the piece in which the command ends that ended the run. `before` is what was taken before
 -- that piece.
-pub record TakenByCommand (p : ProgramParts) (left now : Option (List ℕ)) : Type 0 where
+pub record TakenByCommand (s : Setting) (left now : Option (List ℕ)) : Type 0 where
   pub before : List ℕ
   pub front : List ℕ
   pub rest : List ℕ
   pub taken : Consumes left now (before ++ (front ++ rest))
-  pub goes_on : (play (start p) (ended before)).over ≡ false
-  pub over : (play (start p) (ended (before ++ front))).over ≡ true
+  pub goes_on : (play_from s (ended before)).over ≡ false
+  pub over : (play_from s (ended (before ++ front))).over ≡ true
 
-abbrev pub IsTaken : Option (List ℕ) → Option (List ℕ) → ProgramParts → Type 0
-IsTaken left now p = IsAtEnd now ⊎ TakenByCommand p left now
+abbrev pub IsTaken : Option (List ℕ) → Option (List ℕ) → Setting → Type 0
+IsTaken left now s = IsAtEnd now ⊎ TakenByCommand s left now
 
 -- The source failed: what was written are the answers to the commands that end in the bytes that were taken.
-pub record AnswersTaken (left now old new : Option (List ℕ)) (p : ProgramParts) : Type 0 where
+pub record AnswersTaken (left now old new : Option (List ℕ)) (s : Setting) : Type 0 where
   pub taken : List ℕ
   pub from : Consumes left now taken
-  pub written : Appends old new (play (start p) (ended taken)).bytes
+  pub written : Appends old new (play_from s (ended taken)).bytes
 
 -- the source is as it was, where the words or the model are refused
 pub record LeavesSource (words : List (List ℕ)) (files : Option Files) (status : Status) (same : Type 0) : Type 0 where
-  pub words_refused : model_word words ≡ None → same
+  pub words_refused : wanted words ≡ None → same
   pub model_refused : IfSome files (λ held. IsSome (refusal_for words held) → same)
   pub at_usage : status ≡ Usage → same
   pub at_model : status ≡ ModelRefused → same

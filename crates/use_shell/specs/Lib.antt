@@ -1,6 +1,7 @@
 pub mod Words
 pub mod Models
 pub mod ModelReadings
+pub mod Echo
 pub mod Output
 pub mod Endings
 pub mod Finishes

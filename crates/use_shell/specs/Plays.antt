@@ -1,136 +1,145 @@
 -- What playing a part of an input did. Only proofs use these words.
-use Rattle.std.specs.Prelude.{ℕ, ◌≡◌, ◌<◌, ◌≤◌, ◌+◌, ◌⊎◌, List, [], ◌++◌, length, Option, Some, Result, Ok, Err, Bool, true, false}
+use Rattle.std.specs.Prelude.{ℕ, ◌≡◌, ◌<◌, ◌≤◌, ◌+◌, ◌⊎◌, ◌||◌, List, ◌++◌, length, Option, Some, Result, Ok, Err, Bool, true, false}
+use Rattle.std.specs.Option.{ForSome}
 use Rattle.std.specs.Io.KnownBytes.{Appends, Consumes, IsAtEnd}
+use Rattle.use_io.specs.Shelves.{Files}
 use Rattle.use_text.specs.declared.cut.Cut.{Cut}
 use Rattle.use_text.specs.Cuts.{cuts, ended}
 use Rattle.use_text.specs.Keeping.{Cutting, StandsFor}
 use Rattle.ocl_core.specs.declared.program.ProgramParts.{ProgramParts}
-use Rattle.use_session.specs.Answering.{Standing}
-use Rattle.use_session.specs.Machine.{Machine, start}
+use Rattle.use_session.specs.Machine.{Machine}
+use Rattle.use_shell.specs.declared.player.Player.{Player}
 use Rattle.use_shell.specs.declared.status.Status.{Status}
-use Rattle.use_shell.specs.declared.status.Status.TheVariants.{Done, TooLong}
+use Rattle.use_shell.specs.declared.status.Status.TheVariants.{TooLong}
 use Rattle.use_shell.specs.declared.stop.Stop.{Stop}
-use Rattle.use_shell.specs.declared.stop.Stop.TheVariants.{Read, Write, Memory}
-use Rattle.use_shell.specs.Output.{play, play_within, of_input_within}
+use Rattle.use_shell.specs.declared.stop.Stop.TheVariants.{Memory}
+use Rattle.use_shell.specs.Output.{Ending, Played, Setting, after, of_input_within, play, play_from, play_within, read_status}
 use Rattle.use_shell.specs.Endings.{AppendsFront}
 
--- a session that is not over, and a cutter without commands that wait
-pub record IsReady (s : Standing) (c : Cutting) : Type 0 where
-  pub over : s.over ≡ false
-  pub waiting : c.waiting ≡ []
+-- bytes were answered: of those that waited and these, some were written, and the others wait
+pub record Puts (old new : Option (List ℕ)) (before after bytes : List ℕ) : Type 0 where
+  pub put : List ℕ
+  pub written : Appends old new put
+  pub whole : before ++ bytes ≡ put ++ after
 
--- after some bytes, the commands that end by a piece were played, and the units of their evaluations were counted; `over` says whether one of
--- them ended the run
-pub record PlaysOn (m : Machine) (bytes piece : List ℕ) (now : Machine) (c : Cutting) (over : Bool) (old new : Option (List ℕ)) (before after : ℕ) : Type 0 where
-  pub stands : StandsFor c (bytes ++ piece)
-  pub more : List Cut
-  pub commands : ended (bytes ++ piece) ≡ ended bytes ++ more
-  pub ends : over ≡ (play m more).over
-  pub machine : over ≡ false → now ≡ (play m more).machine
-  pub written : Appends old new (play m more).bytes
-  pub units : after ≡ before + (play m more).units
+-- a player has come to what commands lead to
+pub record HasCome (p : Played) (was now : Player) (old new : Option (List ℕ)) (steps steps' : ℕ) : Type 0 where
+  pub machine : now.session.machine ≡ p.machine
+  pub failed : now.failed ≡ (was.failed || p.failed)
+  pub puts : Puts old new was.waiting.items now.waiting.items p.bytes
+  pub units : steps' ≡ steps + p.units
 
--- a front of what the commands write that end by a piece, and of more commands
-abbrev pub PlaysFront : Machine → List ℕ → List ℕ → Option (List ℕ) → Option (List ℕ) → Type 0
-PlaysFront m bytes piece old new = (more rest : List Cut) → ended (bytes ++ piece) ≡ ended bytes ++ more → AppendsFront old new (play m (more ++ rest)).bytes
+-- it was stopped on the way: a front was written of what waited and of what the commands write
+pub record IsStopped (p : Played) (waiting : List ℕ) (old new : Option (List ℕ)) (steps steps' : ℕ) (stop : Stop) : Type 0 where
+  pub front : AppendsFront old new (waiting ++ p.bytes)
+  pub units : (stop ≡ Memory) ⊎ (steps' ≤ steps + p.units)
 
--- the same of both, whatever the cutter was fed before
-abbrev pub PlaysPiece : Standing → Cutting → List ℕ → Standing → Cutting → Option (List ℕ) → Option (List ℕ) → ℕ → ℕ → Bool → Type 0
-PlaysPiece s c piece now cut old new before after over =
-    (bytes : List ℕ) → StandsFor c bytes → PlaysOn s.machine bytes piece now.machine cut over old new before after
+-- it has come to the end and tells whether the run is over, or it was stopped
+abbrev pub Plays : Played → Player → Player → Option (List ℕ) → Option (List ℕ) → ℕ → ℕ → Result Bool Stop → Type 0
+Plays p was now old new steps steps' (Ok over) = HasCome p was now old new steps steps' × (over ≡ p.over)
+Plays p was now old new steps steps' (Err stop) = IsStopped p was.waiting.items old new steps steps' stop
 
--- so many units were counted as the commands that end by a piece spend
-abbrev pub CountsFront : Machine → List ℕ → List ℕ → ℕ → ℕ → Type 0
-CountsFront m bytes piece before after = (more : List Cut) → ended (bytes ++ piece) ≡ ended bytes ++ more → after ≡ before + (play m more).units
+-- the same at the end of an input
+abbrev pub PlaysAndEnds : Played → Player → Player → Option (List ℕ) → Option (List ℕ) → ℕ → ℕ → Result (Unit {0}) Stop → Type 0
+PlaysAndEnds p was now old new steps steps' (Ok x) = HasCome p was now old new steps steps'
+PlaysAndEnds p was now old new steps steps' (Err stop) = IsStopped p was.waiting.items old new steps steps' stop
 
-abbrev pub CountsLast : Machine → List ℕ → ℕ → ℕ → Type 0
-CountsLast m bytes before after = (more : List Cut) → cuts bytes ≡ ended bytes ++ more → after ≡ before + (play m more).units
+-- it has come so far that this is left
+pub record IsOnTheWay (all rest : Played) (was now : Player) (old new : Option (List ℕ)) (steps steps' : ℕ) : Type 0 where
+  pub done : Played
+  pub whole : all ≡ after done rest
+  pub come : HasCome done was now old new steps steps'
 
-abbrev pub PlaysPieceFront : Standing → Cutting → List ℕ → Option (List ℕ) → Option (List ℕ) → Type 0
-PlaysPieceFront s c piece old new = (bytes : List ℕ) → StandsFor c bytes → PlaysFront s.machine bytes piece old new
+-- the commands that end in these bytes were played, and none has ended the run
+pub record HasPlayed (c : Machine → Cut → Played) (m : Machine) (bytes : List ℕ) (was now : Player) (cutter : Cutting) (old new : Option (List ℕ))
+    (steps steps' : ℕ) : Type 0 where
+  pub stands : StandsFor cutter bytes
+  pub goes_on : (play c m (ended bytes)).over ≡ false
+  pub come : HasCome (play c m (ended bytes)) was now old new steps steps'
 
--- the command that the input's end cuts off was played, if there is one
-pub record PlaysLast (m : Machine) (bytes : List ℕ) (old new : Option (List ℕ)) (before after : ℕ) : Type 0 where
-  pub more : List Cut
-  pub commands : cuts bytes ≡ ended bytes ++ more
-  pub written : Appends old new (play m more).bytes
-  pub units : after ≡ before + (play m more).units
+-- what a source is played with
+abbrev pub given : ProgramParts → Bool → Bool → Files → Setting
+given p echo strict files = record { program = p; files = files; echo = echo; strict = strict }
 
--- a front of what it writes
-pub record FrontOfLast (m : Machine) (bytes : List ℕ) (old new : Option (List ℕ)) : Type 0 where
-  pub more : List Cut
-  pub commands : cuts bytes ≡ ended bytes ++ more
-  pub written : AppendsFront old new (play m more).bytes
+-- these commands were played from the start and their answers were written, and their units were counted
+pub record Wrote (p : Played) (failed : Bool) (old new : Option (List ℕ)) (steps steps' : ℕ) : Type 0 where
+  pub same : failed ≡ p.failed
+  pub written : Appends old new p.bytes
+  pub units : steps' ≡ steps + p.units
 
--- these bytes were taken, the commands that end in them were played, with their units counted, and none has ended the run
-pub record HasPlayed (p : ProgramParts) (bytes : List ℕ) (s : Standing) (c : Cutting) (old new : Option (List ℕ)) (steps steps' : ℕ) : Type 0 where
-  pub stands : StandsFor c bytes
-  pub goes_on : (play (start p) (ended bytes)).over ≡ false
-  pub machine : s.machine ≡ (play (start p) (ended bytes)).machine
-  pub written : Appends old new (play (start p) (ended bytes)).bytes
-  pub units : steps' ≡ steps + (play (start p) (ended bytes)).units
+-- a source was played to its end. `s` is what it was played with, by the files of the shelf, where they are told
+pub record IsWhole (files : Option Files) (s : Files → Setting) (limit : ℕ) (failed : Bool) (left now old new : Option (List ℕ)) (steps steps' : ℕ) : Type 0 where
+  pub taken : List ℕ
+  pub from : Consumes left now taken
+  pub end : IsAtEnd now
+  pub within : length taken ≤ limit
+  pub wrote : ForSome files (λ held. Wrote (play_from (s held) (cuts taken)) failed old new steps steps')
+
+-- the commands that end in a front of the last piece have ended the run
+pub record IsOver (s : Setting) (failed : Bool) (before front : List ℕ) (old new : Option (List ℕ)) (steps steps' : ℕ) : Type 0 where
+  pub goes_on : (play_from s (ended before)).over ≡ false
+  pub over : (play_from s (ended (before ++ front))).over ≡ true
+  pub wrote : Wrote (play_from s (ended (before ++ front))) failed old new steps steps'
 
 -- a command of a source ended the run: one that ends in the piece that was taken last, of which so much was within the limit
-pub record IsEnded (p : ProgramParts) (limit : ℕ) (left now old new : Option (List ℕ)) (steps steps' : ℕ) : Type 0 where
+pub record IsEnded (files : Option Files) (s : Files → Setting) (limit : ℕ) (failed : Bool) (left now old new : Option (List ℕ)) (steps steps' : ℕ) : Type 0 where
   pub before : List ℕ
   pub front : List ℕ
   pub rest : List ℕ
   pub taken : Consumes left now (before ++ (front ++ rest))
   pub within : length (before ++ front) ≤ limit
-  pub goes_on : (play (start p) (ended before)).over ≡ false
-  pub over : (play (start p) (ended (before ++ front))).over ≡ true
-  pub written : Appends old new (play (start p) (ended (before ++ front))).bytes
-  pub units : steps' ≡ steps + (play (start p) (ended (before ++ front))).units
+  pub over : ForSome files (λ held. IsOver (s held) failed before front old new steps steps')
 
--- a source was played to its end
-pub record IsWhole (p : ProgramParts) (limit : ℕ) (left now old new : Option (List ℕ)) (steps steps' : ℕ) : Type 0 where
-  pub taken : List ℕ
-  pub from : Consumes left now taken
-  pub end : IsAtEnd now
-  pub within : length taken ≤ limit
-  pub written : Appends old new (play (start p) (cuts taken)).bytes
-  pub units : steps' ≡ steps + (play (start p) (cuts taken)).units
+-- the commands that end within the limit have not ended the run
+pub record GoesPast (s : Setting) (limit : ℕ) (taken : List ℕ) (old new : Option (List ℕ)) (steps steps' : ℕ) : Type 0 where
+  pub goes_on : (play_within s limit taken).over ≡ false
+  pub written : Appends old new (play_within s limit taken).bytes
+  pub units : steps' ≡ steps + (play_within s limit taken).units
 
 -- more bytes were taken of a source than an input may have
-pub record IsPast (p : ProgramParts) (limit : ℕ) (left now old new : Option (List ℕ)) (steps steps' : ℕ) : Type 0 where
+pub record IsPast (files : Option Files) (s : Files → Setting) (limit : ℕ) (left now old new : Option (List ℕ)) (steps steps' : ℕ) : Type 0 where
   pub taken : List ℕ
   pub from : Consumes left now taken
   pub past : limit < length taken
-  pub goes_on : (play_within p limit taken).over ≡ false
-  pub written : Appends old new (play_within p limit taken).bytes
-  pub units : steps' ≡ steps + (play_within p limit taken).units
+  pub goes : ForSome files (λ held. GoesPast (s held) limit taken old new steps steps')
 
 -- a source was played as far as it could be read
-pub record IsCutOff (p : ProgramParts) (limit : ℕ) (left now old new : Option (List ℕ)) (steps steps' : ℕ) : Type 0 where
+pub record AnswersEnded (s : Setting) (taken : List ℕ) (old new : Option (List ℕ)) (steps steps' : ℕ) : Type 0 where
+  pub written : Appends old new (play_from s (ended taken)).bytes
+  pub units : steps' ≡ steps + (play_from s (ended taken)).units
+
+pub record IsCutOff (files : Option Files) (s : Files → Setting) (limit : ℕ) (left now old new : Option (List ℕ)) (steps steps' : ℕ) : Type 0 where
   pub taken : List ℕ
   pub from : Consumes left now taken
   pub within : length taken ≤ limit
-  pub written : Appends old new (play (start p) (ended taken)).bytes
-  pub units : steps' ≡ steps + (play (start p) (ended taken)).units
+  pub answered : ForSome files (λ held. AnswersEnded (s held) taken old new steps steps')
 
--- a source was played, and a front of its answers was written
-pub record IsStopped (p : ProgramParts) (limit : ℕ) (left now old new : Option (List ℕ)) : Type 0 where
+-- a source was played, and a front of its answers was written; without want of memory no more units were counted than all commands spend
+pub record IsFrontOf (e : Ending) (old new : Option (List ℕ)) (steps steps' : ℕ) (stop : Stop) : Type 0 where
+  pub front : AppendsFront old new e.bytes
+  pub units : (stop ≡ Memory) ⊎ (steps' ≤ steps + e.units)
+
+pub record IsHalted (files : Option Files) (s : Files → Setting) (limit : ℕ) (left now old new : Option (List ℕ)) (steps steps' : ℕ) (stop : Stop) : Type 0 where
   pub taken : List ℕ
   pub from : Consumes left now taken
-  pub written : (rest : List ℕ) → now ≡ Some rest → AppendsFront old new (of_input_within p limit (taken ++ rest)).bytes
-
--- the same with no want of memory: no more units were counted than all commands spend
-pub record IsUnwritten (p : ProgramParts) (limit : ℕ) (left now old new : Option (List ℕ)) (steps steps' : ℕ) : Type 0 where
-  pub stopped : IsStopped p limit left now old new
-  pub units : (rest : List ℕ) → now ≡ Some rest → steps' ≤ steps + (of_input_within p limit (stopped.taken ++ rest)).units
+  pub front : ForSome files (λ held. (rest : List ℕ) → now ≡ Some rest → IsFrontOf (of_input_within (s held) limit (taken ++ rest)) old new steps steps' stop)
 
 -- so many bytes were taken, and what ends in them was played
-pub record IsStreaming (p : ProgramParts) (count : ℕ) (s : Standing) (c : Cutting) (left now old new : Option (List ℕ)) (steps steps' : ℕ) : Type 0 where
+pub record IsStreaming (files : Option Files) (c : Files → Machine → Cut → Played) (m : Machine) (count : ℕ) (was player : Player) (cutter : Cutting)
+    (left now old new : Option (List ℕ)) (steps steps' : ℕ) : Type 0 where
   pub taken : List ℕ
   pub from : Consumes left now taken
   pub counted : count ≡ length taken
-  pub played : HasPlayed p taken s c old new steps steps'
+  pub played : ForSome files (λ held. HasPlayed (c held) m taken was player cutter old new steps steps')
+
+-- how a source was played to its end, or to a command that ended the run
+abbrev pub IsRead : Option Files → (Files → Setting) → Bool → ℕ → Option (List ℕ) → Option (List ℕ) → Option (List ℕ) → Option (List ℕ) → ℕ → ℕ → Status → Type 0
+IsRead files s strict limit left now old new steps steps' status = (failed : Bool) × (status ≡ read_status strict failed)
+    × (IsWhole files s limit failed left now old new steps steps' ⊎ IsEnded files s limit failed left now old new steps steps')
 
 -- how a source was played
-abbrev pub Streams : ProgramParts → ℕ → Option (List ℕ) → Option (List ℕ) → Option (List ℕ) → Option (List ℕ) → ℕ → ℕ → Result Status Stop → Type 0
-Streams p limit left now old new steps steps' (Ok Done) = IsWhole p limit left now old new steps steps' ⊎ IsEnded p limit left now old new steps steps'
-Streams p limit left now old new steps steps' (Ok TooLong) = IsPast p limit left now old new steps steps'
-Streams p limit left now old new steps steps' (Ok _) = ⊥
-Streams p limit left now old new steps steps' (Err Read) = IsCutOff p limit left now old new steps steps'
-Streams p limit left now old new steps steps' (Err Write) = IsUnwritten p limit left now old new steps steps'
-Streams p limit left now old new steps steps' (Err Memory) = IsStopped p limit left now old new
+abbrev pub Streams : Option Files → (Files → Setting) → Bool → ℕ → Option (List ℕ) → Option (List ℕ) → Option (List ℕ) → Option (List ℕ) → ℕ → ℕ
+    → Result Status Stop → Type 0
+Streams files s strict limit left now old new steps steps' (Ok status) = IsRead files s strict limit left now old new steps steps' status
+    ⊎ ((status ≡ TooLong) × IsPast files s limit left now old new steps steps')
+Streams files s strict limit left now old new steps steps' (Err stop) = IsHalted files s limit left now old new steps steps' stop

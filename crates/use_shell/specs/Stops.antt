@@ -15,3 +15,10 @@ pub record StopsByWrite {T : Type 0} (before now : ℕ) (result : Result T Stop)
   pub later : before ≤ now
   pub cause : IsErrOf result Write → Rose before now
   pub no_read : ¬ IsErrOf result Read
+
+-- of a part that fetches files and writes: counts of the faults of shelf and sink
+pub record StopsByFile {T : Type 0} (shelf shelf' sink sink' : ℕ) (result : Result T Stop) : Type 0 where
+  pub shelf_later : shelf ≤ shelf'
+  pub sink_later : sink ≤ sink'
+  pub read : IsErrOf result Read → Rose shelf shelf'
+  pub write : IsErrOf result Write → Rose sink sink'

@@ -1,5 +1,6 @@
 ghost use Rattle.std.specs.Prelude.{◌≡◌, ◌≤◌, All, IfOk, IfSome, IsOkUnless, length};
 ghost use Rattle.std.specs.FinMap.{get};
+ghost use Rattle.use_io.specs.Shelves.{KeepsFiles};
 ghost use Rattle.use_text.specs.Places.{place_at};
 ghost use Rattle.use_text.specs.Refusals.{refusal_at};
 ghost use Rattle.use_text.specs.Tokens.{IsWithin};
@@ -9,7 +10,7 @@ ghost use Rattle.use_syntax.specs.Language.{language};
 ghost use Rattle.use_shell.specs.Models.{max_model, model_of_file, program_of_text};
 ghost use Rattle.use_shell.specs.ModelReadings.{Gives, ReadsModel, StopsByMemory};
 
-use crate::stop::Stop;
+use crate::Stop;
 use grammar_core::{Grammar, GrammarFault};
 use model_check::{ModelFault, check_model};
 use ocl_program::Program;
@@ -90,6 +91,7 @@ pub fn model_of_file<F: Shelf>(
     requires table { grammar.now ≡ language }
     ensures model { IfSome (F.files shelf.old) (λ files. Gives (model_of_file (get files name.now)) result) }
     ensures cause { ReadsModel (F.faults shelf.old) (F.faults shelf.new) result }
+    ensures files { KeepsFiles (F.files shelf.old) (F.files shelf.new) }
 {
     match shelf.fetch(alloc, name, MAX_MODEL) {
         Ok(text) => model_of_text(alloc, grammar, &text),

@@ -4,7 +4,7 @@ ghost use Rattle.std.specs.Io.KnownBytes.{Appends, ReadConsumes};
 ghost use Rattle.use_shell.specs.Endings.{AppendsFront};
 ghost use Rattle.use_shell.specs.Stops.{StopsByRead, StopsByWrite};
 
-use crate::stop::Stop;
+use crate::Stop;
 use use_io::{Sink, SinkFault, Source};
 
 /// Takes the next bytes of a source.

@@ -1,4 +1,4 @@
-//! `usesh MODEL`: reads a model and a stream of commands, and writes their answers.
+//! `usesh [--echo] [--strict] MODEL`: reads a model and a stream of commands, and writes their answers.
 #![tactic(auto)]
 
 ghost use Rattle.std.specs.Prelude.{◌≡◌, ◌<◌};
@@ -30,12 +30,9 @@ fn run_uncounted<F: Shelf, S: Source, K: Sink, L: Ledger>(
     run(alloc, words, shelf, source, sink, &mut steps)
 }
 
-/// What could not be read: the model's file, or the input.
-fn unread(words: &[String], model_failed: bool) -> &str {
-    match words.get(1) {
-        Some(name) if model_failed => name.as_str(),
-        _ => "the input",
-    }
+/// What could not be read: the model or a file that a command opens, or the input.
+fn unread(shelf_failed: bool) -> &'static str {
+    if shelf_failed { "a file" } else { "the input" }
 }
 
 fn main(rt: HostRuntime) -> ExitCode {
@@ -65,8 +62,8 @@ fn main(rt: HostRuntime) -> ExitCode {
     // A run that a fault ended says so, where it can; its answers and its status stand without that.
     let _ = match status {
         Status::ReadFault => {
-            let name = unread(&words, shelf.faults() > 0);
-            eprintln!(rt; "usesh: cannot read {name}")
+            let unread = unread(shelf.faults() > 0);
+            eprintln!(rt; "usesh: cannot read {unread}")
         }
         Status::WriteFault => eprintln!(rt; "usesh: cannot write"),
         Status::Memory => eprintln!(rt; "usesh: out of memory"),

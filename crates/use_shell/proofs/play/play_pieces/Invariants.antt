@@ -1,15 +1,22 @@
-use Rattle.std.proofs.Common.{◌≤◌, ◌-◌}
-use Rattle.use_shell.specs.Plays.{IsReady, IsStreaming}
+use Rattle.std.proofs.Common.{◌≡◌, ◌≤◌, ◌-◌, [], false}
+use Rattle.use_io.specs.Shelves.{KeepsFiles}
+use Rattle.use_session.specs.Machine.{start}
+use Rattle.use_shell.specs.Output.{commands_in, max_files}
+use Rattle.use_shell.specs.Plays.{IsStreaming}
 use Rattle.use_shell.proofs.play.play_pieces.Given as goal
 
 abbrev pub invariant-pieces : goal.invariant-pieces
 invariant-pieces g l = record {
-  at : IsStreaming l.fn.session.machine.program l.taken l.session l.cutter (g.S.Source.left l.fn.source) (g.S.Source.left l.source) (g.K.Sink.written l.fn.sink)
-      (g.K.Sink.written l.sink) l.fn.steps l.steps;
+  at : IsStreaming (g.F.Shelf.files l.fn.shelf) (λ held. commands_in max_files held l.manner.echo) (start l.fn.player.session.machine.program) l.taken l.fn.player
+      l.player l.cutter (g.S.Source.left l.fn.source) (g.S.Source.left l.source) (g.K.Sink.written l.fn.sink) (g.K.Sink.written l.sink) l.fn.steps l.steps;
   within : l.taken ≤ l.limit;
-  ready : IsReady l.session l.cutter;
+  ready : l.player.session.over ≡ false;
+  clean : l.player.waiting.items ≡ [];
+  waiting : l.cutter.waiting ≡ [];
   few : l.cutter.count ≤ l.taken;
+  files : KeepsFiles (g.F.Shelf.files l.fn.shelf) (g.F.Shelf.files l.shelf);
   source_later : g.S.Source.faults l.fn.source ≤ g.S.Source.faults l.source;
+  shelf_later : g.F.Shelf.faults l.fn.shelf ≤ g.F.Shelf.faults l.shelf;
   sink_later : g.K.Sink.faults l.fn.sink ≤ g.K.Sink.faults l.sink;
 }
 

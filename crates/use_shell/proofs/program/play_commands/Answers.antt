@@ -1,13 +1,28 @@
-use Rattle.use_shell.specs.Output.{max_input}
-use Rattle.use_shell.proofs.SourceLemmas.{run_length, run_units, stops_by_length, streamed}
+use Rattle.use_shell.specs.Plays.{given}
+use Rattle.use_shell.proofs.SourceLemmas.{answers_taken, commands_end, run_long, run_played, run_strict}
 use Rattle.use_shell.proofs.program.play_commands.Goals as goal
 
-pub returns-clause-bytes : goal.returns-clause-bytes
-returns-clause-bytes g c = streamed c.args.program max_input c.play_source.ensures.stays _ _ _ _ _ _ c.play_source.result c.play_source.ensures.played
+pub returns-clause-told : goal.returns-clause-told
+returns-clause-told g c held told =
+    commands_end (g.F.Shelf.files c.args.shelf.now) c.args.program c.args.manner.echo c.args.manner.strict held told c.play_source.ensures.stays _ _ _ _ _ _
+    c.play_source.result c.play_source.ensures.played
 
-pub returns-clause-length : goal.returns-clause-length
-returns-clause-length g c =
-    stops_by_length c.args.program _ c.play_source.result (run_length c.args.program max_input _ _ _ c.play_source.result (returns-clause-bytes g c))
+pub returns-clause-played : goal.returns-clause-played
+returns-clause-played g c =
+    run_played (g.F.Shelf.files c.args.shelf.now) (given c.args.program c.args.manner.echo c.args.manner.strict) c.args.manner.strict _ _ _ _ _ _
+    c.play_source.result c.play_source.ensures.played
 
-pub returns-clause-units : goal.returns-clause-units
-returns-clause-units g c = run_units c.args.program max_input c.play_source.ensures.stays _ _ _ _ _ _ c.play_source.result c.play_source.ensures.played
+pub returns-clause-long : goal.returns-clause-long
+returns-clause-long g c =
+    run_long (g.F.Shelf.files c.args.shelf.now) (given c.args.program c.args.manner.echo c.args.manner.strict) c.args.manner.strict _ _ _ _ _ _
+    c.play_source.result c.play_source.ensures.played
+
+pub returns-clause-strict : goal.returns-clause-strict
+returns-clause-strict g c =
+    run_strict (g.F.Shelf.files c.args.shelf.now) (given c.args.program c.args.manner.echo c.args.manner.strict) c.args.manner.strict _ _ _ _ _ _
+    c.play_source.result c.play_source.ensures.played
+
+pub returns-clause-fault : goal.returns-clause-fault
+returns-clause-fault g c is none held told =
+    answers_taken (g.F.Shelf.files c.args.shelf.now) c.args.program c.args.manner.echo c.args.manner.strict held told _ _ _ _ _ _
+    (c.play_source.ensures.cut_off is none)
