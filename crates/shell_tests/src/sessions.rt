@@ -3,6 +3,7 @@ ghost use Rattle.use_text.specs.Limits.{max_command, max_lines};
 ghost use Rattle.use_text.specs.Tokens.{IsWithin};
 ghost use Rattle.use_syntax.specs.Language.{language};
 
+mod check;
 mod control;
 mod destroy;
 mod history;
@@ -42,7 +43,7 @@ use variables::VARIABLES;
 /// A command, and what is written for it.
 pub type Line = (&'static str, &'static str);
 
-/// The model of the sessions.
+/// The model of most sessions.
 const BOXES: &str = "model Boxes
 enum Colour {red, green}
 abstract class Thing
@@ -108,10 +109,10 @@ fn program(alloc: Global, g: &Grammar, text: &str) -> Result<Option<Program>, Fa
     }
 }
 
-// A session over the model.
-fn new_session(alloc: Global) -> Result<Option<Session>, Fail> {
+// A session over a model.
+fn new_session(alloc: Global, model: &str) -> Result<Option<Session>, Fail> {
     let g = language(alloc)?;
-    match program(alloc, &g, BOXES)? {
+    match program(alloc, &g, model)? {
         None => Ok(None),
         Some(program) => Ok(Some(Session::new(alloc, g, program)?)),
     }
@@ -186,14 +187,19 @@ fn wrong_line_of<L: Ledger>(
     Ok(None)
 }
 
-// The first line of a table that a new session answers otherwise, if there is one.
-fn wrong_line<L: Ledger>(alloc: Global, table: &[Line], blank: Blank) -> Result<Option<u32>, Fail>
+// The first line of a table that a new session over a model answers otherwise, if there is one.
+fn wrong_line<L: Ledger>(
+    alloc: Global,
+    model: &str,
+    table: &[Line],
+    blank: Blank,
+) -> Result<Option<u32>, Fail>
     requires name { blank.name ≡ L.name }
     requires parts { blank.parts ≡ L.parts }
     requires some { 0 < blank.parts }
 {
     let mut steps = Steps::<L>::new(blank);
-    match new_session(alloc)? {
+    match new_session(alloc, model)? {
         None => Ok(Some(0)),
         Some(mut session) => wrong_line_of(alloc, &mut session, table, &mut steps),
     }
@@ -202,7 +208,7 @@ fn wrong_line<L: Ledger>(alloc: Global, table: &[Line], blank: Blank) -> Result<
 #[test]
 fn objects_come_and_keep_what_is_stored_in_them(rt: HostRuntime) -> Result<(), Fail> {
     assert_eq!(rt;
-        wrong_line::<Brand>(rt.alloc(), OBJECTS, Blank::new(1))?,
+        wrong_line::<Brand>(rt.alloc(), BOXES, OBJECTS, Blank::new(1))?,
         None
     );
     Ok(())
@@ -211,7 +217,7 @@ fn objects_come_and_keep_what_is_stored_in_them(rt: HostRuntime) -> Result<(), F
 #[test]
 fn links_are_walked_from_both_ends(rt: HostRuntime) -> Result<(), Fail> {
     assert_eq!(rt;
-        wrong_line::<Brand>(rt.alloc(), LINKS, Blank::new(1))?,
+        wrong_line::<Brand>(rt.alloc(), BOXES, LINKS, Blank::new(1))?,
         None
     );
     Ok(())
@@ -220,7 +226,7 @@ fn links_are_walked_from_both_ends(rt: HostRuntime) -> Result<(), Fail> {
 #[test]
 fn a_destroyed_object_goes_out_of_all_that_holds_it(rt: HostRuntime) -> Result<(), Fail> {
     assert_eq!(rt;
-        wrong_line::<Brand>(rt.alloc(), DESTROYED, Blank::new(1))?,
+        wrong_line::<Brand>(rt.alloc(), BOXES, DESTROYED, Blank::new(1))?,
         None
     );
     Ok(())
@@ -229,7 +235,7 @@ fn a_destroyed_object_goes_out_of_all_that_holds_it(rt: HostRuntime) -> Result<(
 #[test]
 fn variables_take_the_types_of_their_values(rt: HostRuntime) -> Result<(), Fail> {
     assert_eq!(rt;
-        wrong_line::<Brand>(rt.alloc(), VARIABLES, Blank::new(1))?,
+        wrong_line::<Brand>(rt.alloc(), BOXES, VARIABLES, Blank::new(1))?,
         None
     );
     Ok(())
@@ -238,7 +244,7 @@ fn variables_take_the_types_of_their_values(rt: HostRuntime) -> Result<(), Fail>
 #[test]
 fn branches_and_loops_are_carried_out(rt: HostRuntime) -> Result<(), Fail> {
     assert_eq!(rt;
-        wrong_line::<Brand>(rt.alloc(), CONTROL, Blank::new(1))?,
+        wrong_line::<Brand>(rt.alloc(), BOXES, CONTROL, Blank::new(1))?,
         None
     );
     Ok(())
@@ -247,7 +253,7 @@ fn branches_and_loops_are_carried_out(rt: HostRuntime) -> Result<(), Fail> {
 #[test]
 fn a_refused_list_of_statements_leaves_no_trace(rt: HostRuntime) -> Result<(), Fail> {
     assert_eq!(rt;
-        wrong_line::<Brand>(rt.alloc(), ROLLED_BACK, Blank::new(1))?,
+        wrong_line::<Brand>(rt.alloc(), BOXES, ROLLED_BACK, Blank::new(1))?,
         None
     );
     Ok(())
@@ -256,7 +262,7 @@ fn a_refused_list_of_statements_leaves_no_trace(rt: HostRuntime) -> Result<(), F
 #[test]
 fn commands_are_taken_back_and_carried_out_again(rt: HostRuntime) -> Result<(), Fail> {
     assert_eq!(rt;
-        wrong_line::<Brand>(rt.alloc(), HISTORY, Blank::new(1))?,
+        wrong_line::<Brand>(rt.alloc(), BOXES, HISTORY, Blank::new(1))?,
         None
     );
     Ok(())
@@ -264,14 +270,17 @@ fn commands_are_taken_back_and_carried_out_again(rt: HostRuntime) -> Result<(), 
 
 #[test]
 fn classes_the_model_and_the_state_are_told(rt: HostRuntime) -> Result<(), Fail> {
-    assert_eq!(rt; wrong_line::<Brand>(rt.alloc(), INFO, Blank::new(1))?, None);
+    assert_eq!(rt;
+        wrong_line::<Brand>(rt.alloc(), BOXES, INFO, Blank::new(1))?,
+        None
+    );
     Ok(())
 }
 
 #[test]
 fn queries_are_answered_with_value_and_type(rt: HostRuntime) -> Result<(), Fail> {
     assert_eq!(rt;
-        wrong_line::<Brand>(rt.alloc(), QUERIES, Blank::new(1))?,
+        wrong_line::<Brand>(rt.alloc(), BOXES, QUERIES, Blank::new(1))?,
         None
     );
     Ok(())
@@ -280,7 +289,7 @@ fn queries_are_answered_with_value_and_type(rt: HostRuntime) -> Result<(), Fail>
 #[test]
 fn each_rule_refuses_a_command(rt: HostRuntime) -> Result<(), Fail> {
     assert_eq!(rt;
-        wrong_line::<Brand>(rt.alloc(), REFUSALS, Blank::new(1))?,
+        wrong_line::<Brand>(rt.alloc(), BOXES, REFUSALS, Blank::new(1))?,
         None
     );
     Ok(())
@@ -289,7 +298,7 @@ fn each_rule_refuses_a_command(rt: HostRuntime) -> Result<(), Fail> {
 #[test]
 fn what_is_not_built_is_told_behind_names_and_types(rt: HostRuntime) -> Result<(), Fail> {
     assert_eq!(rt;
-        wrong_line::<Brand>(rt.alloc(), UNBUILT, Blank::new(1))?,
+        wrong_line::<Brand>(rt.alloc(), BOXES, UNBUILT, Blank::new(1))?,
         None
     );
     Ok(())

@@ -1,6 +1,10 @@
 ghost use Rattle.std.specs.Prelude.{◌≡◌, ◌<◌, None};
 
+mod files;
 mod models;
+mod strict;
+mod unread;
+mod words;
 
 use std::alloc::Global;
 use std::marker::Brand;
@@ -43,6 +47,27 @@ fn shelf_of(alloc: Global, model: &[u8]) -> Result<MemShelf, Fail> {
     Ok(MemShelf::new(vec![in alloc; (name, bytes)]?))
 }
 
+// What a run over held files and an input in pieces writes, and how it ends.
+fn played_over<L: Ledger>(
+    alloc: Global,
+    words: &[String],
+    mut shelf: MemShelf,
+    input: Vec<u8>,
+    piece: usize,
+    blank: Blank,
+) -> Result<(Vec<u8>, Status), Fail>
+    requires name { blank.name ≡ L.name }
+    requires parts { blank.parts ≡ L.parts }
+    requires some { 0 < blank.parts }
+    requires piece { 0 < piece }
+{
+    let mut steps = Steps::<L>::new(blank);
+    let mut source = CalmIn::new(input, piece);
+    let mut sink = CalmOut::new(alloc);
+    let status = run(alloc, words, &mut shelf, &mut source, &mut sink, &mut steps);
+    Ok((sink.written().to_vec(alloc)?, status))
+}
+
 // What a run over a held model and an input in pieces writes, and how it ends.
 fn played<L: Ledger>(
     alloc: Global,
@@ -57,20 +82,9 @@ fn played<L: Ledger>(
     requires some { 0 < blank.parts }
     requires piece { 0 < piece }
 {
-    let mut steps = Steps::<L>::new(blank);
-    let mut shelf = shelf_of(alloc, model)?;
-    let mut source = CalmIn::new(input, piece);
-    let mut sink = CalmOut::new(alloc);
+    let shelf = shelf_of(alloc, model)?;
     let words = words_of(alloc, more)?;
-    let status = run(
-        alloc,
-        &words,
-        &mut shelf,
-        &mut source,
-        &mut sink,
-        &mut steps,
-    );
-    Ok((sink.written().to_vec(alloc)?, status))
+    played_over::<L>(alloc, &words, shelf, input, piece, blank)
 }
 
 struct Run {
@@ -83,7 +97,7 @@ struct Run {
 
 const USAGE: &str = "usage: usesh [--echo] [--strict] MODEL | usesh --sample N\n";
 
-const RUNS: [Run; 12] = [
+const RUNS: [Run; 11] = [
     Run {
         words: &["M.use"],
         model: "model E\n",
@@ -161,13 +175,6 @@ const RUNS: [Run; 12] = [
         output: USAGE,
         status: Status::Usage,
     },
-    Run {
-        words: &["-"],
-        model: "model E",
-        input: "? 1",
-        output: USAGE,
-        status: Status::Usage,
-    },
 ];
 
 #[test]
@@ -216,6 +223,34 @@ fn an_input_past_the_limit_answers_what_ended_within_it(rt: HostRuntime) -> Resu
     assert_eq!(rt; out.as_slice(), b"-> 1 : Integer\n".as_slice());
     assert_eq!(rt; status, Status::TooLong);
     assert_eq!(rt; status.number(), 6);
+    Ok(())
+}
+
+#[test]
+fn a_command_that_ends_the_run_ends_its_input(rt: HostRuntime) -> Result<(), Fail> {
+    let alloc = rt.alloc();
+    let mut input = Vec::from_slice(alloc, b"? 1\nquit\n")?;
+    for _ in 0..16_777_216u32 {
+        input.push(b'\n')?;
+    }
+    let (out, status) = played::<Brand>(alloc, &["M.use"], b"model E", input, 4096, Blank::new(1))?;
+    assert_eq!(rt; out.as_slice(), b"-> 1 : Integer\n".as_slice());
+    assert_eq!(rt; status, Status::Done);
+    Ok(())
+}
+
+#[test]
+fn a_command_that_is_too_long_is_not_shown(rt: HostRuntime) -> Result<(), Fail> {
+    let alloc = rt.alloc();
+    let mut input = vec![in alloc; b'?'; 65_537]?;
+    input.extend_from_slice(b"\n? 2\n")?;
+    let words = ["--echo", "--strict", "M.use"];
+    let (out, status) = played::<Brand>(alloc, &words, b"model E", input, 4096, Blank::new(1))?;
+    assert_eq!(rt;
+        out.as_slice(),
+        b"refused K1 at 1:1: command is too long\nuse> ? 2\n-> 2 : Integer\n".as_slice()
+    );
+    assert_eq!(rt; status, Status::Strict);
     Ok(())
 }
 

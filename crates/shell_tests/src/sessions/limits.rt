@@ -1,6 +1,6 @@
 ghost use Rattle.std.specs.Prelude.{◌≡◌, ◌<◌};
 
-use super::{new_session, written};
+use super::{BOXES, new_session, written};
 use std::alloc::Global;
 use std::marker::Brand;
 use std::sync::ledger::{Blank, Ledger};
@@ -53,7 +53,7 @@ fn last_answer<L: Ledger>(
     requires some { 0 < blank.parts }
 {
     let mut steps = Steps::<L>::new(blank);
-    match new_session(alloc)? {
+    match new_session(alloc, BOXES)? {
         None => Ok(Vec::new(alloc)),
         Some(mut session) => last_answer_of(alloc, &mut session, commands, last, &mut steps),
     }
