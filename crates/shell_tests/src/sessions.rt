@@ -84,20 +84,20 @@ fn language(alloc: Global) -> Result<Grammar, Fail>
     Ok(grammar(alloc)?)
 }
 
-fn model_read(alloc: Global, g: &Grammar, text: &str) -> Result<Option<Parsed>, Fail>
+fn model_read(alloc: Global, g: &Grammar, text: &[u8]) -> Result<Option<Parsed>, Fail>
     requires { g.now ≡ language }
     ensures { IfOk result (λ o. IfSome o (λ p. All (IsWithin (length p.text)) p.tokens)) }
 {
     if text.len() > 10_000 {
         return Ok(None);
     }
-    match read_model(alloc, g, text.as_bytes()) {
+    match read_model(alloc, g, text) {
         Ok(parsed) => Ok(Some(parsed)),
         Err(_) => Ok(None),
     }
 }
 
-fn program(alloc: Global, g: &Grammar, text: &str) -> Result<Option<Program>, Fail>
+fn program(alloc: Global, g: &Grammar, text: &[u8]) -> Result<Option<Program>, Fail>
     requires { g.now ≡ language }
 {
     match model_read(alloc, g, text)? {
@@ -110,7 +110,7 @@ fn program(alloc: Global, g: &Grammar, text: &str) -> Result<Option<Program>, Fa
 }
 
 // A session over a model.
-fn new_session(alloc: Global, model: &str) -> Result<Option<Session>, Fail> {
+fn new_session(alloc: Global, model: &[u8]) -> Result<Option<Session>, Fail> {
     let g = language(alloc)?;
     match program(alloc, &g, model)? {
         None => Ok(None),
@@ -190,7 +190,7 @@ fn wrong_line_of<L: Ledger>(
 // The first line of a table that a new session over a model answers otherwise, if there is one.
 fn wrong_line<L: Ledger>(
     alloc: Global,
-    model: &str,
+    model: &[u8],
     table: &[Line],
     blank: Blank,
 ) -> Result<Option<u32>, Fail>
@@ -208,7 +208,7 @@ fn wrong_line<L: Ledger>(
 #[test]
 fn objects_come_and_keep_what_is_stored_in_them(rt: HostRuntime) -> Result<(), Fail> {
     assert_eq!(rt;
-        wrong_line::<Brand>(rt.alloc(), BOXES, OBJECTS, Blank::new(1))?,
+        wrong_line::<Brand>(rt.alloc(), BOXES.as_bytes(), OBJECTS, Blank::new(1))?,
         None
     );
     Ok(())
@@ -217,7 +217,7 @@ fn objects_come_and_keep_what_is_stored_in_them(rt: HostRuntime) -> Result<(), F
 #[test]
 fn links_are_walked_from_both_ends(rt: HostRuntime) -> Result<(), Fail> {
     assert_eq!(rt;
-        wrong_line::<Brand>(rt.alloc(), BOXES, LINKS, Blank::new(1))?,
+        wrong_line::<Brand>(rt.alloc(), BOXES.as_bytes(), LINKS, Blank::new(1))?,
         None
     );
     Ok(())
@@ -226,7 +226,7 @@ fn links_are_walked_from_both_ends(rt: HostRuntime) -> Result<(), Fail> {
 #[test]
 fn a_destroyed_object_goes_out_of_all_that_holds_it(rt: HostRuntime) -> Result<(), Fail> {
     assert_eq!(rt;
-        wrong_line::<Brand>(rt.alloc(), BOXES, DESTROYED, Blank::new(1))?,
+        wrong_line::<Brand>(rt.alloc(), BOXES.as_bytes(), DESTROYED, Blank::new(1))?,
         None
     );
     Ok(())
@@ -235,7 +235,7 @@ fn a_destroyed_object_goes_out_of_all_that_holds_it(rt: HostRuntime) -> Result<(
 #[test]
 fn variables_take_the_types_of_their_values(rt: HostRuntime) -> Result<(), Fail> {
     assert_eq!(rt;
-        wrong_line::<Brand>(rt.alloc(), BOXES, VARIABLES, Blank::new(1))?,
+        wrong_line::<Brand>(rt.alloc(), BOXES.as_bytes(), VARIABLES, Blank::new(1))?,
         None
     );
     Ok(())
@@ -244,7 +244,7 @@ fn variables_take_the_types_of_their_values(rt: HostRuntime) -> Result<(), Fail>
 #[test]
 fn branches_and_loops_are_carried_out(rt: HostRuntime) -> Result<(), Fail> {
     assert_eq!(rt;
-        wrong_line::<Brand>(rt.alloc(), BOXES, CONTROL, Blank::new(1))?,
+        wrong_line::<Brand>(rt.alloc(), BOXES.as_bytes(), CONTROL, Blank::new(1))?,
         None
     );
     Ok(())
@@ -253,7 +253,7 @@ fn branches_and_loops_are_carried_out(rt: HostRuntime) -> Result<(), Fail> {
 #[test]
 fn a_refused_list_of_statements_leaves_no_trace(rt: HostRuntime) -> Result<(), Fail> {
     assert_eq!(rt;
-        wrong_line::<Brand>(rt.alloc(), BOXES, ROLLED_BACK, Blank::new(1))?,
+        wrong_line::<Brand>(rt.alloc(), BOXES.as_bytes(), ROLLED_BACK, Blank::new(1))?,
         None
     );
     Ok(())
@@ -262,7 +262,7 @@ fn a_refused_list_of_statements_leaves_no_trace(rt: HostRuntime) -> Result<(), F
 #[test]
 fn commands_are_taken_back_and_carried_out_again(rt: HostRuntime) -> Result<(), Fail> {
     assert_eq!(rt;
-        wrong_line::<Brand>(rt.alloc(), BOXES, HISTORY, Blank::new(1))?,
+        wrong_line::<Brand>(rt.alloc(), BOXES.as_bytes(), HISTORY, Blank::new(1))?,
         None
     );
     Ok(())
@@ -271,7 +271,7 @@ fn commands_are_taken_back_and_carried_out_again(rt: HostRuntime) -> Result<(), 
 #[test]
 fn classes_the_model_and_the_state_are_told(rt: HostRuntime) -> Result<(), Fail> {
     assert_eq!(rt;
-        wrong_line::<Brand>(rt.alloc(), BOXES, INFO, Blank::new(1))?,
+        wrong_line::<Brand>(rt.alloc(), BOXES.as_bytes(), INFO, Blank::new(1))?,
         None
     );
     Ok(())
@@ -280,7 +280,7 @@ fn classes_the_model_and_the_state_are_told(rt: HostRuntime) -> Result<(), Fail>
 #[test]
 fn queries_are_answered_with_value_and_type(rt: HostRuntime) -> Result<(), Fail> {
     assert_eq!(rt;
-        wrong_line::<Brand>(rt.alloc(), BOXES, QUERIES, Blank::new(1))?,
+        wrong_line::<Brand>(rt.alloc(), BOXES.as_bytes(), QUERIES, Blank::new(1))?,
         None
     );
     Ok(())
@@ -289,7 +289,7 @@ fn queries_are_answered_with_value_and_type(rt: HostRuntime) -> Result<(), Fail>
 #[test]
 fn each_rule_refuses_a_command(rt: HostRuntime) -> Result<(), Fail> {
     assert_eq!(rt;
-        wrong_line::<Brand>(rt.alloc(), BOXES, REFUSALS, Blank::new(1))?,
+        wrong_line::<Brand>(rt.alloc(), BOXES.as_bytes(), REFUSALS, Blank::new(1))?,
         None
     );
     Ok(())
@@ -298,7 +298,7 @@ fn each_rule_refuses_a_command(rt: HostRuntime) -> Result<(), Fail> {
 #[test]
 fn what_is_not_built_is_told_behind_names_and_types(rt: HostRuntime) -> Result<(), Fail> {
     assert_eq!(rt;
-        wrong_line::<Brand>(rt.alloc(), BOXES, UNBUILT, Blank::new(1))?,
+        wrong_line::<Brand>(rt.alloc(), BOXES.as_bytes(), UNBUILT, Blank::new(1))?,
         None
     );
     Ok(())

@@ -53,7 +53,7 @@ fn last_answer<L: Ledger>(
     requires some { 0 < blank.parts }
 {
     let mut steps = Steps::<L>::new(blank);
-    match new_session(alloc, BOXES)? {
+    match new_session(alloc, BOXES.as_bytes())? {
         None => Ok(Vec::new(alloc)),
         Some(mut session) => last_answer_of(alloc, &mut session, commands, last, &mut steps),
     }
