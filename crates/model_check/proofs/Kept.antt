@@ -1,6 +1,6 @@
 -- What is checked of a model is a program's: where each thing that is added keeps it, the walk does.
 use Rattle.std.proofs.Common.{◌≡◌, ℕ, zero, suc, ◌+◌, ◌<◌, ◌≤◌, Bool, true, false, not, List, [], ◌∷◌, length, slice_get, All, Option, Some, None, IfSome, refl, sym, subst, arith, length-append, ⊎_elim, ◌∙◌, ◌^◌}
-use Rattle.std.specs.Prelude.{⊤, IfOk, Ok, Err}
+use Rattle.std.specs.Prelude.{IfOk, Ok, Err}
 use Rattle.std.specs.Option.{ForSome, option_and_then}
 use Rattle.std.proofs.lemmas.List.{length-map, length-set}
 use Rattle.std.proofs.lemmas.List.Elements.{All-map, All-nil, All-push, All-set}
@@ -31,8 +31,10 @@ use Rattle.ocl_core.specs.declared.program.Contract.{Contract}
 use Rattle.ocl_core.specs.declared.program.Invariant.{Invariant}
 use Rattle.ocl_core.specs.declared.program.OpBody.{OpBody}
 use Rattle.ocl_core.specs.declared.program.OpBody.TheVariants as body
+use Rattle.ocl_core.specs.declared.statement.Stmt.{Stmt}
 use Rattle.ocl_core.specs.Programs.{query_of}
 use Rattle.ocl_core.specs.Trees.{ReadsNow}
+use Rattle.ocl_program.specs.Bodies.{IsBodyOf, soil_of}
 use Rattle.ocl_program.specs.Programs.{IsChecked, IsCheckedNow, IsProgram, MayRead}
 use Rattle.ocl_rules.specs.Typings.{Typing, breaks_t}
 use Rattle.ocl_rules.specs.declared.typed.Typed.{Typed}
@@ -50,6 +52,7 @@ use Rattle.ocl_types.specs.Walk.{type_expr}
 use Rattle.ocl_laws.proofs.Comes.{Comes, binds, widened}
 use Rattle.ocl_laws.proofs.InRange.{Anywhere, typed_ranges}
 use Rattle.ocl_laws.proofs.Now.{literal_now, typed_now}
+use Rattle.soil_laws.proofs.Nesting.{checked_good}
 use Rattle.soil_scope.specs.Expressions.{expression_at}
 use Rattle.soil_scope.specs.Scenes.{Scene}
 use Rattle.soil_scope.specs.Variables.{no_values, with_fixed}
@@ -167,6 +170,7 @@ pub record IsGood (m : ObjectModel) (names : List (List ℕ)) (found : Checked) 
   pub invariants : All (λ i. (i.class < length m.classes) × IsCheckedNow m i.expr) found.invariants
   pub contracts : All (λ c. (c.op < length m.ops) × MayRead c.is_post m c.expr) found.contracts
   pub bodies : All (λ b. ForSome (query_of b) (IsCheckedNow m)) found.bodies
+  pub soil : All (λ b. ForSome (soil_of b) (IsBodyOf m)) found.bodies
   pub derived : All (IsCheckedNow m) found.derived
   pub few : length found.invariants + length found.contracts ≤ length names
   pub body_count : length found.bodies ≡ length m.ops
@@ -183,6 +187,12 @@ no_query m b e = λ x is. absurd (cc)
 a_query : (m : ObjectModel) (e : Expr) → IsCheckedNow m e → ForSome (query_of (body.Query e)) (IsCheckedNow m)
 a_query m e h = λ x is. let same : e ≡ x = cc in subst (IsCheckedNow m) same h
 
+no_statements : (m : ObjectModel) (b : OpBody) → soil_of b ≡ None → ForSome (soil_of b) (IsBodyOf m)
+no_statements m b e = λ x is. absurd (cc)
+
+some_statements : (m : ObjectModel) (done : List Stmt) → IsBodyOf m done → ForSome (soil_of (body.Soil done)) (IsBodyOf m)
+some_statements m done h = λ x is. let same : done ≡ x = cc in subst (IsBodyOf m) same h
+
 within : {A : Type 0} (xs : List A) (i : ℕ) (x : A) → slice_get xs i ≡ Some x → i < length xs
 within [] i x e = absurd (cc)
 within (y ∷ ys) zero x e = omega arith
@@ -193,6 +203,7 @@ nothing_good m names = record {
   invariants = All-nil _;
   contracts = All-nil _;
   bodies = All-map (λ b. ForSome (query_of b) (IsCheckedNow m)) (λ op. body.None) m.ops (λ i d h. no_query m body.None refl);
+  soil = All-map (λ b. ForSome (soil_of b) (IsBodyOf m)) (λ op. body.None) m.ops (λ i d h. no_statements m body.None refl);
   derived = All-map (IsCheckedNow m) (λ d. E.Literal V.Invalid) m.derived (λ i d h. invalid_now m);
   few = omega arith;
   body_count = length-map m.ops (λ op. body.None);
@@ -200,11 +211,13 @@ nothing_good m names = record {
 }
 
 module _ (m : ObjectModel) (names : List (List ℕ)) (found : Checked) (g : IsGood m names found) where
-  with_body_good : (op : ℕ) (b : OpBody) → ForSome (query_of b) (IsCheckedNow m) → IsGood m names (with_body found op b)
-  with_body_good op b h = record {
+  with_body_good : (op : ℕ) (b : OpBody) → ForSome (query_of b) (IsCheckedNow m) → ForSome (soil_of b) (IsBodyOf m) →
+      IsGood m names (with_body found op b)
+  with_body_good op b h k = record {
     invariants = g.invariants;
     contracts = g.contracts;
     bodies = All-set (λ b. ForSome (query_of b) (IsCheckedNow m)) found.bodies op b h g.bodies;
+    soil = All-set (λ b. ForSome (soil_of b) (IsBodyOf m)) found.bodies op b k g.soil;
     derived = g.derived;
     few = g.few;
     body_count = length-set found.bodies op b ∙ g.body_count;
@@ -216,6 +229,7 @@ module _ (m : ObjectModel) (names : List (List ℕ)) (found : Checked) (g : IsGo
     invariants = g.invariants;
     contracts = g.contracts;
     bodies = g.bodies;
+    soil = g.soil;
     derived = All-set (IsCheckedNow m) found.derived number e h g.derived;
     few = g.few;
     body_count = g.body_count;
@@ -228,6 +242,7 @@ module _ (m : ObjectModel) (names : List (List ℕ)) (found : Checked) (g : IsGo
     invariants = All-push (λ i. (i.class < length m.classes) × IsCheckedNow m i.expr) found.invariants i g.invariants h;
     contracts = g.contracts;
     bodies = g.bodies;
+    soil = g.soil;
     derived = g.derived;
     few =
         let room = within names (length found.invariants + length found.contracts) name e in
@@ -243,6 +258,7 @@ module _ (m : ObjectModel) (names : List (List ℕ)) (found : Checked) (g : IsGo
     invariants = g.invariants;
     contracts = All-push (λ c. (c.op < length m.ops) × MayRead c.is_post m c.expr) found.contracts c g.contracts h;
     bodies = g.bodies;
+    soil = g.soil;
     derived = g.derived;
     few =
         let room = within names (length found.invariants + length found.contracts) name e in
@@ -313,18 +329,18 @@ module _ (r : Reading) (range : IsInRange r.scene.model) where
       added false (seen_by_query r.scene.model op names).environment (query_sees r.scene.model range op there names) t
       (λ x. result_rule r.scene.model (op_result r.scene.model op) x) (λ e. with_body found op (body.Query e))
       (λ x p. result_rule_kept r.scene.model (IsCheckedNow r.scene.model) (op_result r.scene.model op) x p)
-      (λ e p. with_body_good r.scene.model r.names found g op (body.Query e) (a_query r.scene.model e p))
+      (λ e p. with_body_good r.scene.model r.names found g op (body.Query e) (a_query r.scene.model e p)
+      (no_statements r.scene.model (body.Query e) refl))
 
-  any : {A : Type 0} (t : Typing A) → Comes Anywhere (λ x. ⊤) t
-  any (Ok a) = tt
-  any (Err e) = tt
-
-  statements_kept : (op : ℕ) (names : List (List ℕ)) (found : Checked) (t : ParseTree) → Good found → Kept (statements r op names found t)
+  statements_kept : (op : ℕ) → op < length r.scene.model.ops → (names : List (List ℕ)) (found : Checked) (t : ParseTree) → Good found →
+      Kept (statements r op names found t)
   unfolding statements
-  statements_kept op names found t g =
-      binds Anywhere (λ x. ⊤) Good (body_statements r.scene (seen_by_statements r.scene.model op names) t)
-      (λ done. pure (with_body found op (body.Soil done))) (any _)
-      (λ done _. with_body_good r.scene.model r.names found g op (body.Soil done) (no_query r.scene.model (body.Soil done) refl))
+  statements_kept op there names found t g =
+      binds Anywhere (λ done. IsBodyOf r.scene.model done) Good (body_statements r.scene (seen_by_statements r.scene.model op names) t)
+      (λ done. pure (with_body found op (body.Soil done)))
+      (checked_good r.scene range false (seen_by_statements r.scene.model op names) (statements_see r.scene.model range op there names) t)
+      (λ done h. with_body_good r.scene.model r.names found g op (body.Soil done) (no_query r.scene.model (body.Soil done) refl)
+      (some_statements r.scene.model done h))
 
   body_kept : (op : ℕ) → op < length r.scene.model.ops → (names : List (List ℕ)) (found : Checked) (node : OperNode) → Good found →
       Kept (body_of r op names found node)
@@ -332,7 +348,7 @@ module _ (r : Reading) (range : IsInRange r.scene.model) where
   body_kept op there names found node g =
       binds Anywhere Good Good (where_there node.query found (query r op names found)) (λ next. where_there node.statements next (statements r op names next))
       (where_kept node.query found (query r op names found) g (λ t _. query_kept op there names found t g))
-      (λ next k. where_kept node.statements next (statements r op names next) k (λ t _. statements_kept op names next t k))
+      (λ next k. where_kept node.statements next (statements r op names next) k (λ t _. statements_kept op there names next t k))
 
   contract_of_kept : (op : ℕ) → op < length r.scene.model.ops → (names : List (List ℕ)) (found : Checked) (is_post : Bool) (t : ParseTree) (name : List ℕ) →
       next_name r.names found ≡ Some name → Good found → Kept (contract_of r op names found is_post t name)
@@ -478,6 +494,7 @@ is_program r range t found e few =
       invariants = g.invariants;
       contracts = g.contracts;
       bodies = g.bodies;
+      soil = g.soil;
       derived = g.derived;
       contract_count = let k = g.few in omega (arith, k, few);
       body_count = g.body_count;

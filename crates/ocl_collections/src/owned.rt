@@ -1,11 +1,11 @@
 ghost use Rattle.std.specs.Prelude.{◌≡◌, All, IfOk};
 ghost use Rattle.ocl_values.specs.Shape.{IsWellMade};
-ghost use Rattle.ocl_values.specs.declared.value.Kind.TheVariants.{Sequence};
 ghost use Rattle.ocl_values.specs.declared.value.Value.TheVariants.{Coll};
+ghost use Rattle.ocl_collections.specs.declared.op.CollOp.TheVariants.{Append};
 ghost use Rattle.ocl_collections.specs.Operations.{coll_op_value, of_collection, of_none, of_one};
 
 use crate::CollOp;
-use crate::adding::push;
+use crate::adding::put_element;
 use crate::conversion::converted;
 use crate::flattening::flatten;
 use crate::making::any_invalid;
@@ -35,24 +35,24 @@ fn owned_of_none(
     }
 }
 
-// An operation of a Sequence and one argument, which adds it in place.
-fn owned_sequence_of_one(
+// `append`, in place where the elements are a Sequence.
+fn owned_append(
     alloc: Global,
-    op: CollOp,
+    kind: Kind,
     items: Vec<Value>,
     x: &Value,
 ) -> Result<Value, AllocError>
-    requires source { IsWellMade (Coll Sequence items.items) }
+    requires source { IsWellMade (Coll kind items.items) }
     requires argument { IsWellMade x.now }
-    ensures { IfOk result (λ v. v ≡ of_one op Sequence items.items x.now) }
+    ensures { IfOk result (λ v. v ≡ of_one Append kind items.items x.now) }
 {
-    match op {
-        CollOp::Including => push(alloc, items, x),
-        CollOp::Append => push(alloc, items, x),
-        _ => of_one(alloc, op, Kind::Sequence, items.as_slice(), x),
+    match kind {
+        Kind::Sequence => put_element(alloc, kind, items, x),
+        _ => of_one(alloc, CollOp::Append, kind, items.as_slice(), x),
     }
 }
 
+// An operation of one argument, which is added in place where that is all.
 fn owned_of_one(
     alloc: Global,
     op: CollOp,
@@ -64,8 +64,9 @@ fn owned_of_one(
     requires argument { IsWellMade x.now }
     ensures { IfOk result (λ v. v ≡ of_one op kind items.items x.now) }
 {
-    match kind {
-        Kind::Sequence => owned_sequence_of_one(alloc, op, items, x),
+    match op {
+        CollOp::Including => put_element(alloc, kind, items, x),
+        CollOp::Append => owned_append(alloc, kind, items, x),
         _ => of_one(alloc, op, kind, items.as_slice(), x),
     }
 }
@@ -89,7 +90,7 @@ fn owned_of_collection(
 }
 
 /// As `apply`, of a source that is given away. Conversions, `reverse` and `flatten` move its
-/// elements, and a Sequence takes one more in place.
+/// elements, and `including` and a Sequence's `append` add one in place.
 pub fn apply_owned(
     alloc: Global,
     op: CollOp,

@@ -16,6 +16,3 @@ pub use ocl_values::{IntOp, Kind, StrOp, Text, Value};
 pub use operators::{BinaryOp, IterOp, PlainOp, TypeTest, UnaryOp, When};
 pub use program::{Contract, ContractNo, Invariant, OpBody, ProgramParts};
 pub use statement::{Act, Stmt, Target};
-
-#[cfg(test)]
-mod tests;

@@ -1,4 +1,5 @@
-ghost use Rattle.std.specs.Prelude.{◌≡◌, ◌∷◌, ◌++◌, ◌<◌, [], All, OnErr, OnOk, length, take, slice_set};
+ghost use Rattle.std.specs.Prelude.{◌≡◌, ◌∷◌, ◌++◌, ◌<◌, [], All, IfSome, OnErr, OnOk, length, slice_get, take, slice_set};
+ghost use Rattle.std.specs.Option.{option_copied};
 ghost use Rattle.ocl_values.specs.Shape.{IsWellMade};
 
 use crate::Values;
@@ -48,6 +49,14 @@ impl Env {
         ensures { result ≡ length self.now }
     {
         self.values.as_slice().len()
+    }
+
+    /// The value at a place.
+    pub fn get(&self, at: usize) -> Option<&Value>
+        ensures value { option_copied result ≡ slice_get self.now at }
+        ensures well_made { IfSome result (λ v. IsWellMade v.now) }
+    {
+        self.values.as_slice().get(at)
     }
 
     /// Binds one more value, innermost.

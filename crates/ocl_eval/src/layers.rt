@@ -9,7 +9,6 @@ ghost use Rattle.ocl_core.specs.Programs.{IsSoundProgram};
 
 use crate::costs::pay;
 use crate::node::Node;
-use crate::objects::{instances, linked_with, new_object, slot_of, test_value};
 use crate::{Meter, Setting, States, Stop, Values};
 use ocl_core::Expr;
 use ocl_values::Value;
@@ -74,40 +73,22 @@ where
                 )
             }
             Expr::Attr(a, number, when) => {
-                let x = self.part(a.get(), locals, meter, steps)?;
-                let value = slot_of(&self.setting, *number, *when, &x, meter, steps)?;
-                pay(states, value, meter, steps)
+                self.attribute(a.get(), *number, *when, locals, meter, steps)
             }
             Expr::Derived(a, number, when) => {
-                let x = self.part(a.get(), locals, meter, steps)?;
-                let value = self.derived_of(*number, *when, &x, meter, steps)?;
-                pay(states, value, meter, steps)
+                self.derived_attribute(a.get(), *number, *when, locals, meter, steps)
             }
             Expr::Nav(a, assoc, end, when) => {
-                let x = self.part(a.get(), locals, meter, steps)?;
-                let value = linked_with(&self.setting, *assoc, *end, *when, &x, meter, steps)?;
-                pay(states, value, meter, steps)
+                self.navigation(a.get(), *assoc, *end, *when, locals, meter, steps)
             }
-            Expr::Extent(class, when) => {
-                let value = instances(&self.setting, *class, *when, meter, steps)?;
-                pay(states, value, meter, steps)
-            }
+            Expr::Extent(class, when) => self.extent(*class, *when, locals, meter, steps),
             Expr::Query(a, op, all) => {
-                let x = self.part(a.get(), locals, meter, steps)?;
-                let xs = self.values(Values::new(alloc), all.as_slice(), locals, meter, steps)?;
-                let value = self.query_of(*op, xs, &x, meter, steps)?;
-                pay(states, value, meter, steps)
+                self.called_query(a.get(), *op, all.as_slice(), locals, meter, steps)
             }
             Expr::Test(test, a, asked, when) => {
-                let x = self.part(a.get(), locals, meter, steps)?;
-                let value = test_value(&self.setting, *test, asked, *when, x, meter, steps)?;
-                pay(states, value, meter, steps)
+                self.type_test(*test, a.get(), asked, *when, locals, meter, steps)
             }
-            Expr::IsNew(a) => {
-                let x = self.part(a.get(), locals, meter, steps)?;
-                let value = new_object(&self.setting, &x, meter, steps)?;
-                pay(states, value, meter, steps)
-            }
+            Expr::IsNew(a) => self.newness(a.get(), locals, meter, steps),
             Expr::ToSet(a) => self.to_set(a.get(), locals, meter, steps),
         }
     }

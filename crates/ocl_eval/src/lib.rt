@@ -17,6 +17,7 @@ mod objects;
 mod outcome;
 mod parts;
 mod programs;
+mod readings;
 mod setting;
 mod states;
 mod stop;

@@ -14,6 +14,3 @@ pub use operators::{binary, decided, plain, unary};
 pub use ranges::{append_range, range_count};
 pub use sources::as_source;
 pub use type_tests::{plain_tested, tested};
-
-#[cfg(test)]
-mod tests;

@@ -1,14 +1,22 @@
 -- Statements that may be carried out over a model: each number in them is the model's, and each expression may be evaluated over the present state.
-use Rattle.std.specs.Prelude.{ℕ, zero, suc, ◌<◌, ⊤, List, All, length}
+use Rattle.std.specs.Prelude.{ℕ, zero, suc, ◌<◌, ⊤, List, All, length, Option, Some, None}
 use Rattle.std.specs.Option.{ForSome}
 use Rattle.class_model.specs.InRange.{IsTypeOf}
 use Rattle.class_model.specs.declared.object_model.ObjectModel.{ObjectModel}
+use Rattle.ocl_core.specs.declared.program.OpBody.{OpBody}
+use Rattle.ocl_core.specs.declared.program.OpBody.TheVariants as body
 use Rattle.ocl_core.specs.declared.statement.Act.{Act, out-Act}
 use Rattle.ocl_core.specs.declared.statement.Act.TheOpen.{Act-F}
 use Rattle.ocl_core.specs.declared.statement.Stmt.{Stmt, out-Stmt}
 use Rattle.ocl_core.specs.declared.statement.Target.{Target}
 use Rattle.ocl_core.specs.declared.statement.Target.TheVariants.{Attr, Local, Shell}
-use Rattle.ocl_program.specs.Programs.{IsCheckedNow}
+use Rattle.ocl_program.specs.Expressions.{IsCheckedNow}
+
+-- the statements of an operation's body
+abbrev pub soil_of : OpBody → Option (List Stmt)
+soil_of body.None = None
+soil_of (body.Query e) = None
+soil_of (body.Soil statements) = Some statements
 
 module _ (m : ObjectModel) where
   abbrev pub TargetIsOf : Target → Type 0

@@ -1,4 +1,5 @@
 pub mod ContractRows
+pub mod Expressions
+pub mod Bodies
 pub mod Programs
 pub mod Indexed
-pub mod Bodies

@@ -1,16 +1,16 @@
 -- Programs: which contracts an operation has, and what is kept of the parts.
-use Rattle.std.specs.Prelude.{◌≡◌, ℕ, ◌<◌, ◌^◌, nat_eq, Bool, true, false, List, All, length}
+use Rattle.std.specs.Prelude.{◌≡◌, ℕ, ◌<◌, ◌^◌, nat_eq, List, All, length}
 use Rattle.std.specs.List.{flat_map}
 use Rattle.std.specs.Option.{ForSome}
 use Rattle.class_model.specs.Features.{declarations, numbers_of}
 use Rattle.class_model.specs.Parts.{op_class, op_name}
 use Rattle.class_model.specs.declared.object_model.ObjectModel.{ObjectModel}
-use Rattle.ocl_core.specs.declared.expression.Expr.{Expr}
 use Rattle.ocl_core.specs.declared.program.Contract.{Contract}
 use Rattle.ocl_core.specs.declared.program.ProgramParts.{ProgramParts}
 use Rattle.ocl_core.specs.Programs.{query_of}
+use Rattle.ocl_program.specs.Bodies.{IsBodyOf, soil_of}
 use Rattle.ocl_program.specs.ContractRows.{row_at}
-use Rattle.ocl_core.specs.Trees.{IsExprOf, IsSound, ReadsNow}
+pub use Rattle.ocl_program.specs.Expressions.{IsChecked, IsCheckedNow, MayRead}
 
 -- the contracts that are written for a declaration, in the order of the text
 abbrev pub contracts_for : List Contract → ℕ → List ℕ
@@ -28,26 +28,12 @@ contracts_of p o = flat_map (contracts_for p.contracts) (overridden_by p.model o
 abbrev pub AreRows : ProgramParts → List (List ℕ) → Type 0
 AreRows p rows = (length rows ≡ length p.model.ops) × ((o : ℕ) → o < length p.model.ops → row_at rows o ≡ contracts_of p o)
 
--- an expression that may be evaluated, over a model
-pub record IsChecked (m : ObjectModel) (e : Expr) : Type 0 where
-  pub sound : IsSound e
-  pub of_model : IsExprOf m e
-
--- one that reads the present state alone
-pub record IsCheckedNow (m : ObjectModel) (e : Expr) : Type 0 where
-  pub checked : IsChecked m e
-  pub now : ReadsNow e
-
--- a postcondition alone may read the state at entry
-abbrev pub MayRead : Bool → ObjectModel → Expr → Type 0
-MayRead true m e = IsChecked m e
-MayRead false m e = IsCheckedNow m e
-
--- each expression is of the model, each contract is written for one of its operations, and each operation and derived attribute has a body
+-- each expression and each statement is of the model, each contract is written for one of its operations, and each operation and derived attribute has a body
 pub record IsProgram (p : ProgramParts) : Type 0 where
   pub invariants : All (λ i. (i.class < length p.model.classes) × IsCheckedNow p.model i.expr) p.invariants
   pub contracts : All (λ c. (c.op < length p.model.ops) × MayRead c.is_post p.model c.expr) p.contracts
   pub bodies : All (λ b. ForSome (query_of b) (IsCheckedNow p.model)) p.bodies
+  pub soil : All (λ b. ForSome (soil_of b) (IsBodyOf p.model)) p.bodies
   pub derived : All (IsCheckedNow p.model) p.derived
   pub contract_count : length p.contracts < 2 ^ 32
   pub body_count : length p.bodies ≡ length p.model.ops

@@ -1,7 +1,8 @@
 ghost use Rattle.std.specs.Prelude.{◌≡◌, min, ◌^◌, ◌-◌, IfOk};
 ghost use Rattle.ocl_values.specs.Shape.{size_of, sizes_of};
+ghost use Rattle.ocl_values.specs.declared.value.Value.TheVariants.{Coll, Str};
 
-use crate::{Text, Value};
+use crate::{Kind, Text, Value};
 use std::alloc::{AllocError, Global};
 use use_lists::Items;
 use use_orders::TryCopy;
@@ -36,28 +37,37 @@ impl Value {
     pub fn try_copy(&self, alloc: Global) -> Result<Value, AllocError>
         ensures { IfOk result (λ v. v ≡ self.now) }
     {
-        Ok(match self {
-            Value::Null => Value::Null,
-            Value::Invalid => Value::Invalid,
-            Value::Bool(b) => Value::Bool(*b),
-            Value::Int(n) => Value::Int(*n),
-            Value::Str(text) => Value::Str(Text::copy_of(alloc, text.as_str())?),
-            Value::Enum(enumeration, literal) => Value::Enum(*enumeration, *literal),
-            Value::Obj(object) => Value::Obj(*object),
-            Value::Coll(kind, items) => Value::Coll(*kind, copy_all(alloc, items.as_slice())?),
-        })
+        match self {
+            Value::Null => Ok(Value::Null),
+            Value::Invalid => Ok(Value::Invalid),
+            Value::Bool(b) => Ok(Value::Bool(*b)),
+            Value::Int(n) => Ok(Value::Int(*n)),
+            Value::Str(text) => copy_text(alloc, text),
+            Value::Enum(enumeration, literal) => Ok(Value::Enum(*enumeration, *literal)),
+            Value::Obj(object) => Ok(Value::Obj(*object)),
+            Value::Coll(kind, items) => copy_collection(alloc, *kind, items.as_slice()),
+        }
     }
 }
 
+// Most values that are copied are neither a String nor a collection, so that these stand apart.
+#[inline(never)]
+fn copy_text(alloc: Global, text: &Text) -> Result<Value, AllocError>
+    ensures { IfOk result (λ v. v ≡ Str text.now) }
+{
+    Ok(Value::Str(Text::copy_of(alloc, text.as_str())?))
+}
+
 #[cycle(copy)]
-fn copy_all(alloc: Global, all: &[Value]) -> Result<Items<Value>, AllocError>
-    ensures { IfOk result (λ items. items ≡ all.now) }
+#[inline(never)]
+fn copy_collection(alloc: Global, kind: Kind, all: &[Value]) -> Result<Value, AllocError>
+    ensures { IfOk result (λ v. v ≡ Coll kind all.now) }
 {
     let mut list = Vec::with_capacity(alloc, all.len())?;
     'copy: for v in all {
         list.push(v.try_copy(alloc)?)?;
     }
-    Ok(Items::from_vec(list))
+    Ok(Value::Coll(kind, Items::from_vec(list)))
 }
 
 impl TryCopy for Value {

@@ -100,6 +100,3 @@ pub trait Shelf {
         ensures files { KeepsFiles (files self.old) (files self.new) }
         ensures cause { HasShelfCause (faults self.old) (faults self.new) result };
 }
-
-#[cfg(test)]
-mod tests;

@@ -40,35 +40,6 @@ fn without_range<T: TryCopy + Drop>(
     Ok(out)
 }
 
-/// A list in order with one element more, at its place.
-pub fn insert<T: Ord + TryCopy + Drop>(
-    alloc: Global,
-    items: &[T],
-    x: &T,
-) -> Result<Vec<T>, AllocError>
-    requires exact { IsAntisymmetric T.cmp }
-    requires sorted { IsSorted T.cmp items.now }
-    ensures { IfOk result (λ v. v.items ≡ bag_of T.cmp (items.now ++ x.now ∷ [])) }
-{
-    insert_at(alloc, items, below(items, x), x)
-}
-
-/// A list in order without repeats, with one element more unless it is there.
-pub fn insert_absent<T: Ord + TryCopy + Drop>(
-    alloc: Global,
-    items: &[T],
-    x: &T,
-) -> Result<Vec<T>, AllocError>
-    requires exact { IsAntisymmetric T.cmp }
-    requires set { set_of T.cmp items.now ≡ items.now }
-    ensures { IfOk result (λ v. v.items ≡ set_of T.cmp (items.now ++ x.now ∷ [])) }
-{
-    match items.binary_search(x) {
-        Ok(_) => copied(alloc, items),
-        Err(n) => insert_at(alloc, items, n, x),
-    }
-}
-
 /// A list in order without what ties with `x`.
 pub fn remove<T: Ord + TryCopy + Drop>(
     alloc: Global,
@@ -79,4 +50,36 @@ pub fn remove<T: Ord + TryCopy + Drop>(
     ensures { IfOk result (λ v. v.items ≡ without T.cmp items.now (x.now ∷ [])) }
 {
     without_range(alloc, items, below(items, x), up_to(items, x))
+}
+
+// A list with `x` behind the first `n`.
+fn put_at<T: Drop>(items: Vec<T>, n: usize, x: T) -> Result<Vec<T>, AllocError>
+    requires { n ≤ length items.items }
+    ensures { IfOk result (λ v. v.items ≡ take n items.items ++ x ∷ drop n items.items) }
+{
+    let mut all = items;
+    all.insert(n, x)?;
+    Ok(all)
+}
+
+/// A list in order with one element more, at its place.
+pub fn insert<T: Ord + Drop>(items: Vec<T>, x: T) -> Result<Vec<T>, AllocError>
+    requires exact { IsAntisymmetric T.cmp }
+    requires sorted { IsSorted T.cmp items.items }
+    ensures { IfOk result (λ v. v.items ≡ bag_of T.cmp (items.items ++ x ∷ [])) }
+{
+    let n = below(items.as_slice(), &x);
+    put_at(items, n, x)
+}
+
+/// A list in order without repeats, with one element more unless it is there.
+pub fn insert_absent<T: Ord + Drop>(items: Vec<T>, x: T) -> Result<Vec<T>, AllocError>
+    requires exact { IsAntisymmetric T.cmp }
+    requires set { set_of T.cmp items.items ≡ items.items }
+    ensures { IfOk result (λ v. v.items ≡ set_of T.cmp (items.items ++ x ∷ [])) }
+{
+    match items.binary_search(&x) {
+        Ok(_) => Ok(items),
+        Err(n) => put_at(items, n, x),
+    }
 }

@@ -85,8 +85,8 @@ enum EditCall {
 
 fn edited(alloc: Global, call: EditCall, text: &str, x: u8) -> Result<Vec<u8>, AllocError> {
     match call {
-        EditCall::Insert => insert(alloc, in_order(alloc, text)?.as_slice(), &x),
-        EditCall::InsertAbsent => insert_absent(alloc, distinct(alloc, text)?.as_slice(), &x),
+        EditCall::Insert => insert(in_order(alloc, text)?, x),
+        EditCall::InsertAbsent => insert_absent(distinct(alloc, text)?, x),
         EditCall::Remove => remove(alloc, in_order(alloc, text)?.as_slice(), &x),
     }
 }

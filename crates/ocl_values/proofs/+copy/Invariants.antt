@@ -1,5 +1,5 @@
 use Rattle.std.proofs.Common.{◌≡◌, take}
 use Rattle.ocl_values.proofs.+copy.Given as goal
 
-abbrev pub invariant-shape::copy_all-copy : goal.invariant-shape::copy_all-copy
-invariant-shape::copy_all-copy l = l.list.items ≡ take l.v-index l.all
+abbrev pub invariant-shape::copy_collection-copy : goal.invariant-shape::copy_collection-copy
+invariant-shape::copy_collection-copy l = l.list.items ≡ take l.v-index l.all

@@ -39,32 +39,32 @@ pub bind-requires-clause-second : goal.bind-requires-clause-second
 bind-requires-clause-second g c = subst IsSound (sym c.get-in-Let-2.ensures) ((sound_as _ _ (Expr-F.Let c.in-Let.a c.in-Let.b) c.requires.tree c.in-Let.is
     (search (rules, the_lemmas))).1)
 
-pub part-requires-clause-tree : goal.part-requires-clause-tree
-part-requires-clause-tree g c = subst IsSound (sym c.get-in-Attr.ensures) (sound_as _ _
+pub attribute-requires-clause-tree : goal.attribute-requires-clause-tree
+attribute-requires-clause-tree g c = subst IsSound (sym c.get-in-Attr.ensures) (sound_as _ _
     (Expr-F.Attr c.in-Attr.a c.in-Attr.number c.in-Attr.when) c.requires.tree c.in-Attr.is (search (rules, the_lemmas)))
 
-pub part-requires-in-Derived-clause-tree : goal.part-requires-in-Derived-clause-tree
-part-requires-in-Derived-clause-tree g c = subst IsSound (sym c.get-in-Derived.ensures) (sound_as _ _
+pub derived_attribute-requires-clause-tree : goal.derived_attribute-requires-clause-tree
+derived_attribute-requires-clause-tree g c = subst IsSound (sym c.get-in-Derived.ensures) (sound_as _ _
     (Expr-F.Derived c.in-Derived.a c.in-Derived.number c.in-Derived.when) c.requires.tree c.in-Derived.is (search (rules, the_lemmas)))
 
-pub part-requires-in-Nav-clause-tree : goal.part-requires-in-Nav-clause-tree
-part-requires-in-Nav-clause-tree g c = subst IsSound (sym c.get-in-Nav.ensures) (sound_as _ _
+pub navigation-requires-clause-tree : goal.navigation-requires-clause-tree
+navigation-requires-clause-tree g c = subst IsSound (sym c.get-in-Nav.ensures) (sound_as _ _
     (Expr-F.Nav c.in-Nav.a c.in-Nav.assoc c.in-Nav.end c.in-Nav.when) c.requires.tree c.in-Nav.is (search (rules, the_lemmas)))
 
-pub part-requires-in-Test-clause-tree : goal.part-requires-in-Test-clause-tree
-part-requires-in-Test-clause-tree g c = subst IsSound (sym c.get-in-Test.ensures) (sound_as _ _
+pub type_test-requires-clause-tree : goal.type_test-requires-clause-tree
+type_test-requires-clause-tree g c = subst IsSound (sym c.get-in-Test.ensures) (sound_as _ _
     (Expr-F.Test c.in-Test.test c.in-Test.a c.in-Test.asked c.in-Test.when) c.requires.tree c.in-Test.is (search (rules, the_lemmas)))
 
-pub part-requires-in-IsNew-clause-tree : goal.part-requires-in-IsNew-clause-tree
-part-requires-in-IsNew-clause-tree g c = subst IsSound (sym c.get-in-IsNew.ensures) (sound_as _ _ (Expr-F.IsNew c.in-IsNew.a) c.requires.tree c.in-IsNew.is
+pub newness-requires-clause-tree : goal.newness-requires-clause-tree
+newness-requires-clause-tree g c = subst IsSound (sym c.get-in-IsNew.ensures) (sound_as _ _ (Expr-F.IsNew c.in-IsNew.a) c.requires.tree c.in-IsNew.is
     (search (rules, the_lemmas)))
 
 pub to_set-requires-clause-tree : goal.to_set-requires-clause-tree
 to_set-requires-clause-tree g c = subst IsSound (sym c.get-in-ToSet.ensures) (sound_as _ _ (Expr-F.ToSet c.in-ToSet.a) c.requires.tree c.in-ToSet.is (search
     (rules, the_lemmas)))
 
-pub part-requires-in-Query-clause-tree : goal.part-requires-in-Query-clause-tree
-part-requires-in-Query-clause-tree g c = subst IsSound (sym c.get-in-Query.ensures) ((sound_as _ _
+pub called_query-requires-clause-tree : goal.called_query-requires-clause-tree
+called_query-requires-clause-tree g c = subst IsSound (sym c.get-in-Query.ensures) ((sound_as _ _
     (Expr-F.Query c.in-Query.a c.in-Query.op c.in-Query.all) c.requires.tree c.in-Query.is (search (rules, the_lemmas))).0)
 
 pub iterator-requires-clause-source : goal.iterator-requires-clause-source
@@ -79,8 +79,8 @@ pub collection-requires-clause-trees : goal.collection-requires-clause-trees
 collection-requires-clause-trees g c = subst (All IsSound) (sym c.as_slice-in-Coll.ensures) (sound_as _ _
     (Expr-F.Coll c.in-Coll.op c.in-Coll.all) c.requires.tree c.in-Coll.is (search (rules, the_lemmas)))
 
-pub values-requires-clause-trees : goal.values-requires-clause-trees
-values-requires-clause-trees g c = subst (All IsSound) (sym c.as_slice-in-Query.ensures) ((sound_as _ _
+pub called_query-requires-clause-trees : goal.called_query-requires-clause-trees
+called_query-requires-clause-trees g c = subst (All IsSound) (sym c.as_slice-in-Query.ensures) ((sound_as _ _
     (Expr-F.Query c.in-Query.a c.in-Query.op c.in-Query.all) c.requires.tree c.in-Query.is (search (rules, the_lemmas))).1)
 
 pub make-requires-clause-trees : goal.make-requires-clause-trees

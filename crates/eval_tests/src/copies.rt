@@ -1,4 +1,7 @@
-use super::*;
+use ocl_core::{
+    BinaryOp, CollOp, End, Expr, IntOp, IterOp, Kind, OclType, Part, PlainOp, TypeTest, UnaryOp,
+    Value, When,
+};
 use std::alloc::{AllocError, Global};
 use std::test::Fail;
 use use_lists::{Boxed, Items};

@@ -1,5 +1,5 @@
-use super::*;
 use ocl_core::{BinaryOp, Value};
+use ocl_operations::decided;
 use std::test::Fail;
 
 #[test]

@@ -1,0 +1,5 @@
+//! Tests of sources, sinks and shelves.
+#![tactic(auto)]
+
+#[cfg(test)]
+mod io;
