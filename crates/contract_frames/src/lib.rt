@@ -13,4 +13,4 @@ pub use checks::{check_post, check_pre};
 pub use environments::bound_before;
 pub use fault::FrameFault;
 pub use moves::{enter, leave};
-pub use truths::{all_true, first_fault, judged};
+pub use truths::{all_true, first_fault, is_true, judged};

@@ -19,7 +19,7 @@ pub fn judged(value: &Value) -> Value
     }
 }
 
-fn is_true(value: &Value) -> bool
+pub fn is_true(value: &Value) -> bool
     ensures { result ≡ is_true value.now }
 {
     match value {

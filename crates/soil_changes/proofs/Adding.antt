@@ -1,5 +1,5 @@
--- Each act leaves the layout and the first state of a transaction, and adds changes.
-use Rattle.std.proofs.Common.{◌≡◌, ℕ, Bool, true, false, List, [], ◌∷◌, ◌++◌, Option, Some, None, Ok, Err, refl, sym, ap, ◌∙◌, append_assoc, append-nil, is_eq}
+-- Each act leaves the layout and the first state of a transaction, and adds changes that lead on to the state and are noted.
+use Rattle.std.proofs.Common.{◌≡◌, ℕ, Bool, true, false, List, [], ◌∷◌, ◌++◌, Option, Some, None, Ok, Err, refl, sym, ap, subst, ◌∙◌, append_assoc, append-nil, is_eq, length}
 use Rattle.std.specs.Prelude.{if◌then◌else◌, nat_lt, not}
 use Rattle.std.specs.Option.{option_and_then}
 use Rattle.use_text.specs.declared.code.Code.{Code}
@@ -12,16 +12,26 @@ use Rattle.ocl_values.specs.Order.{value_cmp}
 use Rattle.object_names.specs.Names.{is_name, made_name}
 use Rattle.object_references.specs.References.{without_object}
 use Rattle.object_referrers.specs.Referring.{links_of, slots_referring_to, variables_referring_to}
+use Rattle.object_state.specs.declared.cell.Cell.{Cell}
+use Rattle.object_state.specs.declared.cell.Look.{Look}
 use Rattle.object_state.specs.declared.change.Change.{Change}
 use Rattle.object_state.specs.declared.change.Change.TheVariants.{Bind, Create, Link, Remove, SetSlot, Unlink}
+use Rattle.object_state.specs.declared.layout.Layout.{Layout}
 use Rattle.object_state.specs.declared.objects.Variable.{Variable}
 use Rattle.object_state.specs.declared.store_fault.StoreFault.{StoreFault}
 use Rattle.object_state.specs.Faults.{fault}
-use Rattle.object_state.specs.Looks.{value_of}
+use Rattle.object_state.specs.Looks.{look, value_of}
 use Rattle.object_state.specs.Proposals.{creation, linking}
-use Rattle.object_state.specs.State.{object, stamp_of, variable}
+use Rattle.object_state.specs.State.{State, object, stamp_of, variable}
+use Rattle.object_state.specs.Valid.{IsValid}
 use Rattle.object_state.specs.Weights.{change_weight}
-use Rattle.soil_changes.specs.Acts.{Outcome, ◌>>=◌, ◌>>◌, each, nothing, or_refuse, refuse, refuse_if, then_act}
+use Rattle.entry_states.specs.declared.frame.Frame.{Frame}
+use Rattle.entry_states.specs.Frames.{altered_by, noted}
+use Rattle.entry_states.specs.Leading.{CanBeCarriedOut, led_on}
+use Rattle.entry_states.specs.Noting.{AreNoted}
+use Rattle.entry_states.proofs.Led.{on_apart, on_more, on_valid}
+use Rattle.entry_states.proofs.Noted.{both_noted, change_noted, none_noted}
+use Rattle.soil_changes.specs.Acts.{Outcome, ◌>>=◌, ◌>>◌, each, nothing, or_refuse, refuse_if, then_act}
 use Rattle.soil_changes.specs.Creating.{create, create_all, create_given, create_named, create_new, create_unnamed, refuse_unless_name}
 use Rattle.soil_changes.specs.Destroying.{clear_bound, clear_slot, clear_slots, clear_value, clear_variable, clear_variables, cleared, destroy, destroy_all, destroy_object, live_object, removal, remove, unlink_all, unlink_entry}
 use Rattle.soil_changes.specs.Joining.{at_end, delete, end_of, insert, link, unlink, unlink_pair, unlinking}
@@ -29,8 +39,32 @@ use Rattle.soil_changes.specs.Progress.{Changing, Progress, carry_out, make, mak
 use Rattle.soil_changes.specs.Storing.{as_object, bind, holder, holder_of, may_be_stored, names_itself, put_slot, refuse_unless_stored, replace_slot, set_slot, set_variable}
 use Rattle.soil_changes.specs.Adding.{Adds, OnlyAdds}
 
+-- changes from one state to another, with the frames before and after
+abbrev Noted : Layout → State → State → List Change → List Frame → List Frame → Type 0
+Noted l s t cs fs gs = IsValid l s → CanBeCarriedOut l s cs → AreNoted l s t fs gs
+
+noted_both : (l : Layout) (s t u : State) (cs ds : List Change) (fs gs hs : List Frame) → t ≡ led_on l s cs → Noted l s t cs fs gs → Noted l t u ds gs hs
+    → Noted l s u (cs ++ ds) fs hs
+noted_both l s t u cs ds fs gs hs e a b v h =
+    let apart = on_apart l cs ds s h in
+    let valid = subst (λ (x : State). IsValid l x) (sym e) (on_valid l cs s v apart.0) in
+    let fits = subst (λ (x : State). CanBeCarriedOut l x ds) (sym e) apart.1 in
+    both_noted l s t u fs gs hs (a v apart.0) (b valid fits)
+
+noted_length : (fs : List Frame) (cs : List Cell) (q : Cell → Look) → length (noted fs cs q) ≡ length fs
+noted_length [] cs q = refl
+noted_length (f ∷ fs) cs q = refl
+
 pub adds_none : (p : Progress) → Adds p p
-adds_none p = record { layout = refl; start = refl; more = []; changes = sym (append-nil p.changes) }
+adds_none p = record {
+  layout = refl;
+  start = refl;
+  more = [];
+  changes = sym (append-nil p.changes);
+  state = refl;
+  depth = refl;
+  noted = λ v h. none_noted p.layout p.state p.frames;
+}
 
 pub adds_both : (p q r : Progress) → Adds p q → Adds q r → Adds p r
 adds_both p q r a b = record {
@@ -38,6 +72,10 @@ adds_both p q r a b = record {
   start = b.start ∙ a.start;
   more = a.more ++ b.more;
   changes = b.changes ∙ ap (λ cs. cs ++ b.more) a.changes ∙ append_assoc p.changes a.more b.more;
+  state = b.state ∙ ap (λ l. led_on l q.state b.more) a.layout ∙ ap (λ s. led_on p.layout s b.more) a.state ∙ sym (on_more p.layout a.more b.more p.state);
+  depth = b.depth ∙ a.depth;
+  noted = noted_both p.layout p.state q.state r.state a.more b.more p.frames q.frames r.frames a.state a.noted
+      (subst (λ l. Noted l q.state r.state b.more q.frames r.frames) a.layout b.noted);
 }
 
 pub then_adds : {A B : Type 0} (act : Changing A) (next : A → Changing B) → OnlyAdds act → ((a : A) → OnlyAdds (next a)) → OnlyAdds (act >>= next)
@@ -65,7 +103,15 @@ fault_adds None p = adds_none p
 fault_adds (Some f) p = adds_none p
 
 carry_adds : (c : Change) → OnlyAdds (carry_out c)
-carry_adds c p = record { layout = refl; start = refl; more = c ∷ []; changes = refl }
+carry_adds c p = record {
+  layout = refl;
+  start = refl;
+  more = c ∷ [];
+  changes = refl;
+  state = refl;
+  depth = noted_length p.frames (altered_by p.layout c) (look p.layout p.state);
+  noted = λ v h. change_noted p.layout p.state c p.frames v h.0;
+}
 
 fit_adds : (c : Change) → OnlyAdds (make_fit c)
 fit_adds c p = then_adds (refuse_if (nat_lt p.left (change_weight c)) (x_code 13)) (λ u. carry_out c) (if_adds (nat_lt p.left (change_weight c)) (x_code 13)) (λ u.

@@ -3,3 +3,4 @@ pub mod Agreeing
 pub mod Made
 pub mod Left
 pub mod Adding
+pub mod Unseen

@@ -9,17 +9,22 @@ use Rattle.object_state.specs.declared.store_fault.StoreFault.{StoreFault}
 use Rattle.object_state.specs.declared.store_fault.StoreFault.TheVariants as fault
 use Rattle.object_state.specs.Changes.{apply}
 use Rattle.object_state.specs.Faults.{Fits, fault}
+use Rattle.object_state.specs.Looks.{look}
 use Rattle.object_state.specs.State.{Diagram, State}
 use Rattle.object_state.specs.Weights.{change_weight}
+use Rattle.entry_states.specs.declared.frame.Frame.{Frame}
+use Rattle.entry_states.specs.Frames.{altered_by, noted}
 use Rattle.soil_changes.specs.declared.fault.ChangeFault.{ChangeFault}
 use Rattle.soil_changes.specs.declared.fault.ChangeFault.TheVariants.{Memory, Refused}
 use Rattle.soil_changes.specs.Acts.{Act, Outcome, ◌>>◌, nothing, refuse, refuse_if}
 
--- the state in which it began, the state now, the changes that led there, and how much more changes may weigh
+-- the state in which it began, the state now, the frames of the calls that are open, the changes that led there, and how much more changes may
+-- weigh
 pub record Progress : Type 0 where
   pub layout : Layout
   pub start : State
   pub state : State
+  pub frames : List Frame
   pub changes : List Change
   pub left : ℕ
 
@@ -27,8 +32,8 @@ pub record Progress : Type 0 where
 abbrev pub max_change_weight : ℕ
 max_change_weight = 50000
 
-abbrev pub begun : Diagram → Progress
-begun d = record { layout = d.layout; start = d.state; state = d.state; changes = []; left = max_change_weight }
+abbrev pub begun : Diagram → List Frame → Progress
+begun d fs = record { layout = d.layout; start = d.state; state = d.state; frames = fs; changes = []; left = max_change_weight }
 
 abbrev pub diagram_of : Progress → Diagram
 diagram_of p = record { layout = p.layout; state = p.state }
@@ -56,9 +61,17 @@ abbrev pub refuse_for : Option StoreFault → Changing (Unit {0})
 refuse_for None = nothing
 refuse_for (Some f) = refuse (code_for f)
 
--- after a change
+-- after a change, which is noted before
+abbrev pub noted_in : Progress → Change → List Frame
+noted_in p c = noted p.frames (altered_by p.layout c) (look p.layout p.state)
+
 abbrev pub with_change : Change → Progress → Progress
-with_change c p = record p { state = apply p.layout p.state c; changes = p.changes ++ c ∷ []; left = p.left - change_weight c }
+with_change c p = record p {
+  state = apply p.layout p.state c;
+  frames = noted_in p c;
+  changes = p.changes ++ c ∷ [];
+  left = p.left - change_weight c;
+}
 
 abbrev pub carry_out : Change → Changing (Unit {0})
 carry_out c p = (Ok tt, with_change c p)

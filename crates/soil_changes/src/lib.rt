@@ -11,4 +11,5 @@ mod storing;
 mod transaction;
 
 pub use fault::ChangeFault;
+pub use storing::may_be_stored;
 pub use transaction::Transaction;

@@ -34,7 +34,11 @@ fn are_live(store: &ReferrerStore, objects: &[ObjNo]) -> bool
 }
 
 /// Whether a value is neither invalid nor holds an object that is not live.
-fn may_be_stored(alloc: Global, store: &ReferrerStore, value: &Value) -> Result<bool, AllocError>
+pub fn may_be_stored(
+    alloc: Global,
+    store: &ReferrerStore,
+    value: &Value,
+) -> Result<bool, AllocError>
     ensures { IfOk result (λ b. b ≡ may_be_stored store.now.state value.now) }
 {
     if value.is_invalid() {

@@ -1,12 +1,15 @@
-ghost use Rattle.std.specs.Prelude.{◌≡◌, ◌≤◌, ◌^◌, OnOk, length};
+ghost use Rattle.std.specs.Prelude.{◌≡◌, ◌∷◌, ◌<◌, ◌-◌, ◌≤◌, ◌^◌, OnOk, length};
 ghost use Rattle.object_state.specs.Changes.{apply, inverse};
 ghost use Rattle.object_state.specs.Faults.{Fits, OldPartsAgree};
 ghost use Rattle.object_state.specs.Weights.{change_weight};
+ghost use Rattle.entry_states.specs.Frames.{left, opened};
 ghost use Rattle.entry_states.specs.Leading.{CanBeTakenBack, taken_back};
+ghost use Rattle.entry_states.specs.Noting.{AreNoted};
 ghost use Rattle.soil_changes.specs.Progress.{Gives, Lead, begun, diagram_of, make, make_fit, with_change};
 
 use crate::ChangeFault;
 use crate::fault::{breaks, breaks_x};
+use entry_states::{Call, Frame, Frames, Overlay};
 use object_referrers::ReferrerStore;
 use object_state::{Change, StateReader};
 use std::alloc::{AllocError, Global};
@@ -17,12 +20,13 @@ use use_lists::Items;
 /// What the changes of a transaction may weigh.
 const MAX_CHANGE_WEIGHT: u32 = 50_000;
 
-/// A store, and the changes that were made of it since a transaction began, so that they can be
-/// taken back.
+/// A store with the frames of the calls that are open, and the changes that were made of it since a
+/// transaction began, so that they can be taken back.
 #[derive(Drop)]
 pub struct Transaction {
     pub(crate) alloc: Global,
     pub(crate) store: ReferrerStore,
+    pub(crate) frames: Frames,
     pub(crate) changes: Vec<Change>,
     /// What further changes may weigh.
     pub(crate) left: u32,
@@ -44,38 +48,55 @@ impl Model for Transaction {
     ghost invariant = { IsKept };
 }
 
-/// Takes a change back.
-fn take_one_back(store: &mut ReferrerStore, change: Change) -> Result<(), AllocError>
-    requires { Fits store.old.layout store.old.state (inverse change) }
+/// Takes a change back. What takes it back is noted, as any change.
+fn take_one_back(
+    alloc: Global,
+    store: &mut ReferrerStore,
+    frames: &mut Frames,
+    change: Change,
+) -> Result<(), AllocError>
+    requires few { length store.old.layout.assocs < 2 ^ 32 }
+    requires fits { Fits store.old.layout store.old.state (inverse change) }
     ensures layout { store.new.layout ≡ store.old.layout }
     ensures back { OnOk result (store.new ≡ record store.old { state = apply store.old.layout store.old.state (inverse change) }) }
+    ensures noted { OnOk result (AreNoted store.old.layout store.old.state (apply store.old.layout store.old.state (inverse change)) frames.old frames.new) }
 {
-    store.apply(change.inverse())?;
+    let back = change.inverse();
+    frames.note(alloc, store, &back)?;
+    store.apply(back)?;
     Ok(())
 }
 
 /// Takes changes back, the last first.
-fn take_back(store: &mut ReferrerStore, changes: Vec<Change>) -> Result<(), AllocError>
-    requires { CanBeTakenBack store.old.layout changes.items store.old.state }
+fn take_back(
+    alloc: Global,
+    store: &mut ReferrerStore,
+    frames: &mut Frames,
+    changes: Vec<Change>,
+) -> Result<(), AllocError>
+    requires few { length store.old.layout.assocs < 2 ^ 32 }
+    requires back { CanBeTakenBack store.old.layout changes.items store.old.state }
     ensures layout { store.new.layout ≡ store.old.layout }
     ensures back { OnOk result (store.new ≡ record store.old { state = taken_back store.old.layout changes.items store.old.state }) }
+    ensures noted { OnOk result (AreNoted store.old.layout store.old.state (taken_back store.old.layout changes.items store.old.state) frames.old frames.new) }
 {
     let mut changes = changes;
     'back: while let Some(change) = changes.pop() {
-        take_one_back(store, change)?;
+        take_one_back(alloc, store, frames, change)?;
     }
     Ok(())
 }
 
 impl Transaction {
     /// A transaction that begins.
-    pub fn begin(alloc: Global, store: ReferrerStore) -> Transaction
-        requires { length store.layout.assocs ≤ 2 ^ 32 }
-        ensures { result ≡ begun store }
+    pub fn begin(alloc: Global, store: ReferrerStore, frames: Frames) -> Transaction
+        requires { length store.layout.assocs < 2 ^ 32 }
+        ensures { result ≡ begun store frames }
     {
         Transaction {
             alloc,
             store,
+            frames,
             changes: Vec::new(alloc),
             left: MAX_CHANGE_WEIGHT,
         }
@@ -86,6 +107,30 @@ impl Transaction {
         ensures { result.now ≡ diagram_of self.now }
     {
         &self.store
+    }
+
+    /// The frames of the calls that are open.
+    pub fn frames(&self) -> &Frames
+        ensures { result.now ≡ self.now.frames }
+    {
+        &self.frames
+    }
+
+    /// Enters a call.
+    pub fn enter(&mut self, call: Call) -> Result<(), AllocError>
+        requires { length self.old.frames < 2 ^ 32 - 1 }
+        ensures { OnOk result (self.new ≡ record self.old { frames = opened call ∷ self.old.frames }) }
+    {
+        let overlay = Overlay::new(self.alloc);
+        self.frames.push(Frame { call, overlay })
+    }
+
+    /// Leaves the top call.
+    pub fn leave(&mut self) -> Result<(), AllocError>
+        ensures { OnOk result (self.new ≡ record self.old { frames = left self.old.frames }) }
+    {
+        self.frames.leave_top(self.alloc)?;
+        Ok(())
     }
 
     /// The changes that were made, in their order.
@@ -111,6 +156,7 @@ impl Transaction {
     {
         self.store.state_is_valid();
         self.changes.reserve(1)?;
+        self.frames.note(self.alloc, &self.store, &change)?;
         let back = self.store.apply(change)?;
         self.left -= weight;
         self.changes.push(back.inverse())?;
@@ -145,20 +191,28 @@ impl Transaction {
 
     /// Takes all changes back, the last first.
     pub fn roll_back(&mut self) -> Result<(), AllocError>
-        ensures { OnOk result (diagram_of self.new ≡ record { layout = self.old.layout; state = self.old.start }) }
+        ensures start { OnOk result (diagram_of self.new ≡ record { layout = self.old.layout; state = self.old.start }) }
+        ensures noted { OnOk result (AreNoted self.old.layout self.old.state self.old.start self.old.frames self.new.frames) }
     {
         let changes = mem::replace(&mut self.changes, Vec::new(self.alloc));
-        take_back(&mut self.store, changes)
+        take_back(self.alloc, &mut self.store, &mut self.frames, changes)
     }
 
-    /// The store as it stands now, and the changes that led there.
-    pub fn into_parts(self) -> (ReferrerStore, Items<Change>)
+    /// The store as it stands now with the frames of the calls that are open, and the changes that led
+    /// there.
+    pub fn into_parts(self) -> (ReferrerStore, Frames, Items<Change>)
         ensures store { result.0 ≡ diagram_of self }
-        ensures changes { result.1 ≡ self.changes }
+        ensures frames { result.1 ≡ self.frames }
+        ensures changes { result.2 ≡ self.changes }
         ensures lead { Lead self.layout self.start self.changes self.state }
     {
         self.store.state_is_valid();
-        let Transaction { store, changes, .. } = self;
-        (store, Items::from_vec(changes))
+        let Transaction {
+            store,
+            frames,
+            changes,
+            ..
+        } = self;
+        (store, frames, Items::from_vec(changes))
     }
 }

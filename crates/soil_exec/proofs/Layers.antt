@@ -10,6 +10,6 @@ use Rattle.soil_exec.specs.Machine.{Execution, Machine}
 use Rattle.soil_exec.specs.Statements.{Layer, act}
 
 -- what it gives is what its layer gives
-pub gives_as : (p : ProgramParts) (inside : Place → List Stmt → Execution (Unit {0})) (at : Place) (a v : Act) (l : Layer) (m m' : Machine)
-    (r : Result (Unit {0}) ExecFault) → a ≡ v → out-Act v ≡ l → Gives (act p inside at l m) r m' → Gives (act p inside at (out-Act a) m) r m'
-gives_as p inside at a v l m m' r is out h = subst (λ (z : Layer). Gives (act p inside at z m) r m') (sym (ap out-Act is ∙ out)) h
+pub gives_as : (p : ProgramParts) (inside called : Place → List Stmt → Execution (Unit {0})) (at : Place) (a v : Act) (l : Layer) (m m' : Machine)
+    (r : Result (Unit {0}) ExecFault) → a ≡ v → out-Act v ≡ l → Gives (act p inside called at l m) r m' → Gives (act p inside called at (out-Act a) m) r m'
+gives_as p inside called at a v l m m' r is out h = subst (λ (z : Layer). Gives (act p inside called at z m) r m') (sym (ap out-Act is ∙ out)) h

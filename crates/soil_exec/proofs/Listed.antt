@@ -2,7 +2,7 @@
 use Rattle.std.proofs.Common.{◌≡◌, ℕ, ◌+◌, ◌<◌, List, [], ◌∷◌, ◌++◌, length, drop, get_or, Ok, ap, sym, ◌∙◌}
 use Rattle.std.proofs.lemmas.List.{at_drop_more}
 use Rattle.use_text.specs.declared.place.Place.{Place}
-use Rattle.use_text.specs.declared.refusal.Refusal.{Refusal}
+use Rattle.soil_exec.specs.declared.fault.ExecFault.{ExecFault}
 use Rattle.ocl_values.specs.declared.value.Value.{Value}
 use Rattle.ocl_core.specs.declared.expression.Expr.{Expr}
 use Rattle.ocl_core.specs.declared.program.ProgramParts.{ProgramParts}
@@ -23,4 +23,4 @@ module _ (p : ProgramParts) (at : Place) (vs : List Value) (es : List Expr) (n :
       → more ≡ vs ++ v ∷ [] → values_behind p at more (drop (n + 1) es) m' ≡ values_behind p at vs (drop n es) m
   values_next e v more m m' l is h added =
       ap (λ (ws : List Value). values_behind p at ws (drop (n + 1) es) m') added
-      ∙ sym (values_step e m l is ∙ ap (λ (o : Outcome Machine Refusal Value). then_act o further) h)
+      ∙ sym (values_step e m l is ∙ ap (λ (o : Outcome Machine ExecFault Value). then_act o further) h)

@@ -5,7 +5,6 @@ use Rattle.std.proofs.lemmas.List.{drop_at, length-append}
 use Rattle.use_orders.specs.Canon.{all_differ}
 use Rattle.use_text.specs.declared.code.Code.{Code}
 use Rattle.use_text.specs.declared.place.Place.{Place}
-use Rattle.use_text.specs.declared.refusal.Refusal.{Refusal}
 use Rattle.object_state.specs.declared.change.Change.{Change}
 use Rattle.object_state.specs.declared.layout.Layout.{Layout}
 use Rattle.object_state.specs.State.{State, text_cmp}
@@ -48,6 +47,7 @@ module _ (act : Changing (Unit {0})) (before : Kept) (since steps : ℕ) (place 
               ∙ still_bound q.state p.layout before.shell adds.more p.state before.env differ led.valid on current;
           layout = adds.layout;
           shell = refl;
+          depth = adds.depth;
         };
       }
 
@@ -61,12 +61,9 @@ module _ (act : Changing (Unit {0})) (before : Kept) (since steps : ℕ) (place 
       → Comes (changing place act (stand before steps)) before now steps (Err (fault_at place f))
   unsettled now Memory d = record { gives = tt; follows = tt }
   unsettled now (Refused code) d = record {
-    gives = ap (placed place (stand before steps)) d.gives ∙ (λ i. (Err (refusal code), stand (sym d.rest i) steps));
+    gives = ap (placed place (stand before steps)) d.gives ∙ (λ i. (Err (fault_at place (Refused code)), stand (sym d.rest i) steps));
     follows = tt;
   }
-    where
-      refusal : Code → Refusal
-      refusal code = record { code = code; place = place }
 
 -- an act that was done has not taken changes away
 pub may_settle : (act : Changing (Unit {0})) (p q : Progress) (done : Result (Unit {0}) ChangeFault) (since : ℕ) → OnlyAdds act → Gives (act p) done q

@@ -1,39 +1,56 @@
 -- What each act on a transaction keeps, executions of a model's statements keep: what only adds changes, and variables whose types are the model's.
-use Rattle.std.proofs.Common.{ℕ, All, refl, zero, suc, Bool, true, false, List, [], ◌∷◌, ◌++◌, length, Option, Some, None, Ok, Err}
+use Rattle.std.proofs.Common.{ℕ, ◌+◌, All, refl, zero, suc, Bool, true, false, List, [], ◌∷◌, ◌++◌, length, Option, Some, None, Ok, Err}
 use Rattle.std.specs.Prelude.{◌-◌, if◌then◌else◌, nat_eq, replicate, unwrap_or}
 use Rattle.std.specs.Option.{ForSome}
-use Rattle.std.proofs.lemmas.List.Elements.{All-head, All-tail}
+use Rattle.std.proofs.lemmas.List.Elements.{All-head, All-nil, All-tail}
 use Rattle.use_text.specs.declared.code.Code.{Code}
+use Rattle.use_text.specs.declared.code.Family.TheVariants.{C}
 use Rattle.use_text.specs.declared.place.Place.{Place}
-use Rattle.use_text.specs.declared.refusal.Refusal.{Refusal}
+use Rattle.use_text.specs.Codes.{code_of}
+use Rattle.use_text.specs.Refusals.{refusal_at}
+use Rattle.soil_exec.specs.declared.fault.ExecFault.{ExecFault}
+use Rattle.soil_exec.specs.declared.fault.ExecFault.TheVariants.{Broken}
 use Rattle.class_model.specs.InRange.{IsTypeOf}
-use Rattle.class_model.specs.Parts.{class_name}
+use Rattle.class_model.specs.Parts.{class_name, op_result}
 use Rattle.class_model.specs.declared.object_model.ObjectModel.{ObjectModel}
 use Rattle.class_model.specs.declared.types.OclType.{OclType}
-use Rattle.ocl_program.specs.Bodies.{ActIsOf, IsBodyOf, IsStatementOf, IsStatementTo, TargetIsOf}
+use Rattle.ocl_program.specs.Bodies.{ActIsOf, IsBodyOf, IsStatementOf, IsStatementTo, TargetIsOf, soil_of}
 use Rattle.ocl_values.specs.declared.value.Value.{Value}
 use Rattle.ocl_values.specs.declared.value.Value.TheVariants.{Null, Obj}
 use Rattle.ocl_core.specs.declared.expression.Expr.{Expr}
+use Rattle.ocl_core.specs.declared.program.OpBody.{OpBody}
+use Rattle.ocl_core.specs.declared.program.OpBody.TheVariants as body
 use Rattle.ocl_core.specs.declared.program.ProgramParts.{ProgramParts}
 use Rattle.ocl_core.specs.declared.statement.Act.{out-Act}
 use Rattle.ocl_core.specs.declared.statement.Act.TheOpen.{Act-F}
 use Rattle.ocl_core.specs.declared.statement.Stmt.{Stmt, out-Stmt}
 use Rattle.ocl_core.specs.declared.statement.Target.{Target}
 use Rattle.ocl_core.specs.declared.statement.Target.TheVariants.{Local, Shell, Attr}
+use Rattle.ocl_eval.specs.declared.outcome.Outcome as told
+use Rattle.ocl_eval.specs.declared.outcome.Outcome.TheVariants.{Done, Exhausted}
 use Rattle.ocl_eval.specs.Evaluation.{eval}
 use Rattle.ocl_eval.specs.Evaluations as evaluations
-use Rattle.soil_changes.specs.Acts.{Outcome, ◌>>=◌, ◌>>◌, each, nothing, pure, then_act}
+use Rattle.entry_states.specs.declared.frame.Call.{Call}
+use Rattle.entry_states.specs.Frames.{left, opened}
+use Rattle.contract_frames.specs.Holding.{is_true, judged}
+use Rattle.contract_frames.specs.Judging.{bound_before, picture, post_units, posts, pre_units, pres}
+use Rattle.soil_changes.specs.Acts.{Outcome, ◌>>=◌, ◌>>◌, each, nothing, pure, refuse, then_act}
 use Rattle.soil_changes.specs.Creating as creating
 use Rattle.soil_changes.specs.Joining as joining
 use Rattle.soil_changes.specs.Destroying as destroying
-use Rattle.soil_changes.specs.Progress.{Changing, Progress}
+use Rattle.soil_changes.specs.Progress.{Changing, Progress, diagram_of}
 use Rattle.soil_changes.specs.Storing.{holder_of, refuse_unless_stored, set_slot, set_variable}
-use Rattle.soil_exec.specs.Machine.{Execution, Machine, breaks_b, changing, count, environment, leave, or_breaks_x, placed, push, scoped}
+use Rattle.soil_exec.specs.Calls.{body_of, call, call_of, called_on, check_stored, check_stored_if, chosen, framed, given_by, hold, holds, local_at, posts_hold, pres_hold, query, query_value, result_start, statements, statements_value}
+use Rattle.soil_exec.specs.Exec.{outermost}
+use Rattle.soil_exec.specs.Machine.{Execution, Machine, apart, breaks_b, changing, count, environment, leave, or_breaks_x, placed, push, scoped, with_frames}
 use Rattle.soil_exec.specs.Statements.{Layer, act, again, assign, block, branch, destroy, for_each, new, next_object, round, rounds, statement, turn, within}
 use Rattle.soil_exec.specs.Targets.{check_attr, check_holder, check_holder_if, holder, holder_if, put, put_if, put_local, set_local}
 use Rattle.soil_exec.specs.Values.{as_elements, as_truth, collection, condition, scene, value, value_if, valued, values, values_behind}
 use Rattle.soil_changes.specs.Adding.{Adds}
 use Rattle.soil_changes.proofs.Adding.{adds_both, adds_none, all_add, delete_adds, destroyed_add, holder_adds, insert_adds, new_adds, slot_adds, stored_adds, variable_adds}
+use Rattle.soil_exec.proofs.Bodied.{HasBodies, soil_there}
+use Rattle.soil_exec.proofs.Framed.{framed_adds}
+use Rattle.soil_exec.proofs.Rounds.{block_within}
 use Rattle.soil_exec.proofs.Binding.{KeepsTypes, all_keep, delete_keeps, destroyed_keep, holder_keeps, insert_keeps, new_keeps, slot_keeps, stored_keeps, variable_keeps}
 
 -- what stands between a transaction and what an act leaves of it
@@ -53,6 +70,7 @@ record IsLeft (model : ObjectModel) (R : Progress → Progress → Type 0) : Typ
   inserted : (a : ℕ) (v w : Value) → Leaves R (joining.insert a v w)
   deleted : (a : ℕ) (v w : Value) → Leaves R (joining.delete a v w)
   destroyed : (vs : List Value) → Leaves R (destroying.destroy_all vs)
+  framed : (k : Call) (p q : Progress) → R (record p { frames = opened k ∷ p.frames }) q → R p (record q { frames = left q.frames })
 
 -- what holds of statements down to each depth
 module _ (model : ObjectModel) where
@@ -66,7 +84,7 @@ module _ (model : ObjectModel) (R : Progress → Progress → Type 0) (is : IsLe
   then_stays : {A B : Type 0} (e : Execution A) (next : A → Execution B) → Stays e → ((a : A) → Stays (next a)) → Stays (e >>= next)
   then_stays {A = A} e next f g m = by (e m) (f m)
     where
-      by : (o : Outcome Machine Refusal A) → R m.progress o.1.progress → R m.progress (then_act o next).1.progress
+      by : (o : Outcome Machine ExecFault A) → R m.progress o.1.progress → R m.progress (then_act o next).1.progress
       by (Ok a, n) h = is.both m.progress n.progress (next a n).1.progress h (g a n)
       by (Err r, n) h = h
 
@@ -200,6 +218,82 @@ module _ (model : ObjectModel) (R : Progress → Progress → Type 0) (is : IsLe
         then_stays (holder p at target) _ (holder_stays at target) (λ object.
         then_stays (value p at e) _ (value_stays at e) (λ v. put_stays at target object v t))
 
+    -- contracts, and the frame of a call
+    holds_stays : (at : Place) (number : ℕ) (o : ℕ × told.Outcome) → Stays (holds at number o)
+    holds_stays at number (n, Done v) m = by (is_true v)
+      where
+        by : (b : Bool) → R m.progress ((if b then nothing else refuse (Broken (refusal_at (code_of C number) at) n (judged v))) m).1.progress
+        by true = is.none m.progress
+        by false = is.none m.progress
+    holds_stays at number (n, Exhausted) m = is.none m.progress
+
+    hold_stays : (at : Place) (number : ℕ) (os : List (ℕ × told.Outcome)) (units : ℕ) → Stays (hold at number os units)
+    hold_stays at number os units m = each_stays (holds at number) os (holds_stays at number) (record m { steps = m.steps + units })
+
+    posts_stay : (at : Place) (k : Call) (entry : Machine) (given : Value) → Stays (posts_hold p at k entry given)
+    posts_stay at k entry given m =
+        let d = diagram_of m.progress in
+        let pre = picture (diagram_of entry.progress) in
+        hold_stays at 2 (posts p d k pre given) (post_units p d k pre given) m
+
+    framed_stays : (at : Place) (k : Call) (act : Execution Value) → Stays act → Stays (framed p at k act)
+    framed_stays at k act h m =
+        let inner = with_frames (opened k ∷ m.progress.frames) m in
+        let ended = act >>= (λ given. posts_hold p at k m given >> pure given) in
+        is.framed k m.progress (ended inner).1.progress
+        (then_stays act (λ given. posts_hold p at k m given >> pure given) h (λ given.
+        then_stays (posts_hold p at k m given) (λ u. pure given) (posts_stay at k m given) (λ u n. is.none n.progress)) inner)
+
+    apart_stays : (vs : List Value) (act : Execution Value) → Stays act → Stays (apart vs act)
+    apart_stays vs act h m = h (record m { shell = []; locals = vs })
+
+    stored_if_stays : (at : Place) (t : Option OclType) (v : Value) → Stays (check_stored_if at t v)
+    stored_if_stays at None v m = is.none m.progress
+    stored_if_stays at (Some t) v m = changing_stays at (refuse_unless_stored v) (is.stored v) m
+
+    call_of_stays : (at : Place) (op : ℕ) (v : Value) (vs : List Value) → Stays (call_of p at op v vs)
+    call_of_stays at op v vs =
+        then_stays (called_on p at op v) (λ c. each (check_stored at) vs >>= (λ _. pure (record { op = c.1; receiver = c.0; args = vs })))
+        (λ m. or_stays (chosen p.model m.progress.state op v) 5 at m) (λ c.
+        then_stays (each (check_stored at) vs) (λ _. pure (record { op = c.1; receiver = c.0; args = vs }))
+        (each_stays (check_stored at) vs (λ w. changing_stays at (refuse_unless_stored w) (is.stored w))) (λ u n. is.none n.progress))
+
+    module _ (called : Place → List Stmt → Execution (Unit {0})) (all : (at : Place) (body : List Stmt) → IsBodyOf model body → Stays (called at body)) where
+      query_value_stays : (at : Place) (e : Expr) → Stays (query_value p called at e)
+      query_value_stays at e = then_stays (called at []) (λ u. value p at e) (all at [] (All-nil (IsStatementOf model))) (λ u. value_stays at e)
+
+      query_stays : (at : Place) (t : Option OclType) (vs : List Value) (e : Expr) → Stays (query p called at t vs e)
+      query_stays at t vs e =
+          then_stays (apart vs (query_value p called at e)) (λ v. check_stored_if at t v >> pure v) (apart_stays vs (query_value p called at e) (query_value_stays at e))
+          (λ v. then_stays (check_stored_if at t v) (λ u. pure v) (stored_if_stays at t v) (λ u n. is.none n.progress))
+
+      statements_value_stays : (at : Place) (n : ℕ) (b : List Stmt) → IsBodyOf model b → Stays (statements_value p called at n b)
+      statements_value_stays at n b k = then_stays (called at b) (λ u. local_at n) (all at b k) (λ u m. is.none m.progress)
+
+      statements_stay : (at : Place) (n : ℕ) (vs : List Value) (b : List Stmt) → IsBodyOf model b → Stays (statements p called at n vs b)
+      statements_stay at n vs b k = apart_stays vs (statements_value p called at n b) (statements_value_stays at n b k)
+
+      given_stays : (at : Place) (k : Call) (b : OpBody) → ForSome (soil_of b) (IsBodyOf model) → Stays (given_by p called at k b)
+      given_stays at k body.None h m = is.none m.progress
+      given_stays at k (body.Query e) h m =
+          framed_stays at k (query p called at (op_result p.model k.op) (bound_before k) e) (query_stays at (op_result p.model k.op) (bound_before k) e) m
+      given_stays at k (body.Soil b) h m =
+          framed_stays at k (statements p called at (length k.args + 1) (bound_before k ++ result_start (op_result p.model k.op)) b)
+          (statements_stay at (length k.args + 1) (bound_before k ++ result_start (op_result p.model k.op)) b (h b refl)) m
+
+      call_stays : All (λ b. ForSome (soil_of b) (IsBodyOf model)) p.bodies → (at : Place) (receiver : Expr) (op : ℕ) (args : List Expr) (target : Option Target)
+          → ForSome target (TargetIsOf model) → Stays (call p called at receiver op args target)
+      call_stays bodies at receiver op args target t =
+          then_stays (holder_if p at target) _ (holder_if_stays at target) (λ object.
+          then_stays (value p at receiver) _ (value_stays at receiver) (λ v.
+          then_stays (values p at args) _ (values_stay at [] args) (λ vs.
+          then_stays (check_holder_if at target object) _ (check_if_stays at target object) (λ u.
+          then_stays (call_of p at op v vs) _ (call_of_stays at op v vs) (λ k.
+          then_stays (pres_hold p at k) _ (λ m. hold_stays at 1 (pres p (diagram_of m.progress) k) (pre_units p (diagram_of m.progress) k) m) (λ w.
+          then_stays (given_by p called at k (body_of p k)) (λ given. put_if at target object given)
+          (given_stays at k (body_of p k) (soil_there (IsBodyOf model) p.bodies k.op bodies))
+          (λ given. put_if_stays at target object given t)))))))
+
     module _ (inside : Place → List Stmt → Execution (Unit {0})) (all : (at : Place) (body : List Stmt) → IsBodyOf model body → Stays (inside at body)) where
       turn_stays : (at : Place) (body : List Stmt) → IsBodyOf model body → (v : Value) → Stays (turn p inside at body v)
       turn_stays at body k v = then_stays (count at) (λ u. scoped (push v >> inside at body)) (count_stays at)
@@ -234,7 +328,10 @@ module _ (model : ObjectModel) (R : Progress → Progress → Type 0) (is : IsLe
       rounds_stay at test body k zero m = is.none m.progress
       rounds_stay at test body k (suc n) m = more_stays at test body k n (rounds_stay at test body k n) m
 
-      act_stays : (at : Place) (a : Layer) → ((n : ℕ) → ActIsOf model (IsStatementTo model n) a) → Stays (act p inside at a)
+    module _ (inside : Place → List Stmt → Execution (Unit {0})) (all : (at : Place) (body : List Stmt) → IsBodyOf model body → Stays (inside at body))
+        (called : Place → List Stmt → Execution (Unit {0})) (every : (at : Place) (body : List Stmt) → IsBodyOf model body → Stays (called at body))
+        (bodies : All (λ b. ForSome (soil_of b) (IsBodyOf model)) p.bodies) where
+      act_stays : (at : Place) (a : Layer) → ((n : ℕ) → ActIsOf model (IsStatementTo model n) a) → Stays (act p inside called at a)
       unfolding act
       act_stays at (Act-F.New class name target) h m = new_stays at class name target (h 0).2 m
       act_stays at (Act-F.Create names class) h m = changing_stays at (creating.create_all class names) (is.created class names) m
@@ -242,46 +339,67 @@ module _ (model : ObjectModel) (R : Progress → Progress → Type 0) (is : IsLe
       act_stays at (Act-F.Insert assoc first second) h m = two_stay at first second (joining.insert assoc) (is.inserted assoc) m
       act_stays at (Act-F.Delete assoc first second) h m = two_stay at first second (joining.delete assoc) (is.deleted assoc) m
       act_stays at (Act-F.Assign target e) h m = assign_stays at target e (h 0).0 m
-      act_stays at (Act-F.Call receiver op args target) h m = is.none m.progress
-      act_stays at (Act-F.If test one other) h m = branch_stays at test one other (all_of model one (λ n. (h n).1)) (all_of model other (λ n. (h n).2)) m
-      act_stays at (Act-F.For e body) h m = for_stays at e body (all_of model body (λ n. (h n).1)) m
-      act_stays at (Act-F.While test body) h m = rounds_stay at test body (all_of model body (λ n. (h n).1)) (suc m.left) m
+      act_stays at (Act-F.Call receiver op args target) h m = call_stays called every bodies at receiver op args target (h 0).3 m
+      act_stays at (Act-F.If test one other) h m = branch_stays inside all at test one other (all_of model one (λ n. (h n).1)) (all_of model other (λ n. (h n).2)) m
+      act_stays at (Act-F.For e body) h m = for_stays inside all at e body (all_of model body (λ n. (h n).1)) m
+      act_stays at (Act-F.While test body) h m = rounds_stay inside all at test body (all_of model body (λ n. (h n).1)) (suc m.left) m
       act_stays at (Act-F.Declare n) h m = each_stays push (replicate n Null) push_stays m
 
-      statement_stays : (outer : Option Place) (s : Stmt) → IsStatementOf model s → Stays (statement p inside outer s)
-      statement_stays outer s k =
-          then_stays (count (unwrap_or outer (out-Stmt s).place)) (λ u. act p inside (out-Stmt s).place (out-Act (out-Stmt s).act)) (count_stays (unwrap_or outer (out-Stmt s).place))
-          (λ u. act_stays (out-Stmt s).place (out-Act (out-Stmt s).act) (λ n. k.holds (suc n)))
+      statement_stays : (told outer : Option Place) (s : Stmt) → IsStatementOf model s → Stays (statement p inside called told outer s)
+      statement_stays told outer s k =
+          let at = unwrap_or told (out-Stmt s).place in
+          then_stays (count (unwrap_or outer at)) (λ u. act p inside called at (out-Act (out-Stmt s).act)) (count_stays (unwrap_or outer at))
+          (λ u. act_stays at (out-Act (out-Stmt s).act) (λ n. k.holds (suc n)))
 
-      block_stays : (outer : Option Place) (body : List Stmt) → IsBodyOf model body → Stays (block p inside outer body)
-      block_stays outer body k = each_of (IsStatementOf model) (statement p inside outer) (statement_stays outer) body k
+      block_stays : (told outer : Option Place) (body : List Stmt) → IsBodyOf model body → Stays (block p inside called told outer body)
+      block_stays told outer body k = each_of (IsStatementOf model) (statement p inside called told outer) (statement_stays told outer) body k
 
-    within_stays : (n : ℕ) (at : Place) (body : List Stmt) → IsBodyOf model body → Stays (within p n at body)
-    unfolding within
-    within_stays zero at body k m = is.none m.progress
-    within_stays (suc n) at body k m = scoped_stays (block p (within p n) (Some at) body) (block_stays (within p n) (within_stays n) (Some at) body k) m
+    module _ (bodies : All (λ b. ForSome (soil_of b) (IsBodyOf model)) p.bodies) where
+      within_stays : (n : ℕ) (told : Option Place) (at : Place) (body : List Stmt) → IsBodyOf model body → Stays (within p n told at body)
+      unfolding within
+      within_stays zero told at body k m = is.none m.progress
+      within_stays (suc n) told at body k m =
+          scoped_stays (block_within p n told (Some at) body)
+          (block_stays (within p n told) (within_stays n told) (λ at. within p n (Some at) at) (λ at. within_stays n (Some at) at) bodies told (Some at) body k) m
 
-    -- the outermost block
-    exec_stays : (n : ℕ) (body : List Stmt) → IsBodyOf model body → Stays (block p (within p n) None body)
-    exec_stays n body k = block_stays (within p n) (within_stays n) None body k
+      -- the outermost block, and the bodies of operations that are called
+      exec_stays : (n : ℕ) (body : List Stmt) → IsBodyOf model body → Stays (block_within p n None None body)
+      exec_stays n body k =
+          block_stays (within p n None) (within_stays n None) (λ at. within p n (Some at) at) (λ at. within_stays n (Some at) at) bodies None None body k
 
-module _ (p : ProgramParts) where
-  pub exec_adds : (n : ℕ) (body : List Stmt) → IsBodyOf p.model body → (m : Machine) → Adds m.progress (block p (within p n) None body m).1.progress
-  exec_adds = exec_stays p.model Adds (record {
-    none = adds_none;
-    both = adds_both;
-    stored = stored_adds;
-    held = holder_adds;
-    slot = slot_adds;
-    variable = λ name t v h. variable_adds name t v;
-    created = all_add;
-    one = new_adds;
-    inserted = insert_adds;
-    deleted = delete_adds;
-    destroyed = destroyed_add;
-  }) p
+      called_stays : (n : ℕ) (at : Place) (body : List Stmt) → IsBodyOf model body → Stays (within p n (Some at) at body)
+      called_stays n at body k = within_stays n (Some at) at body k
 
-  pub exec_keeps : (n : ℕ) (body : List Stmt) → IsBodyOf p.model body → (m : Machine) → KeepsTypes p.model m.progress (block p (within p n) None body m).1.progress
+-- what adds changes, and keeps the types of variables
+only_adds : (m : ObjectModel) → IsLeft m Adds
+only_adds m = record {
+  none = adds_none;
+  both = adds_both;
+  stored = stored_adds;
+  held = holder_adds;
+  slot = slot_adds;
+  variable = λ name t v h. variable_adds name t v;
+  created = all_add;
+  one = new_adds;
+  inserted = insert_adds;
+  deleted = delete_adds;
+  destroyed = destroyed_add;
+  framed = framed_adds;
+}
+
+module _ (p : ProgramParts) (bodies : HasBodies p) where
+  pub exec_adds : (body : List Stmt) → IsBodyOf p.model body → (m : Machine) → Adds m.progress (outermost p body m).1.progress
+  exec_adds = exec_stays p.model Adds (only_adds p.model) p bodies 63
+
+  pub query_adds : (n : ℕ) (at : Place) (e : Expr) (m : Machine) → Adds m.progress (query_value p (λ at. within p n (Some at) at) at e m).1.progress
+  query_adds n = query_value_stays p.model Adds (only_adds p.model) p (λ at. within p n (Some at) at) (called_stays p.model Adds (only_adds p.model) p bodies n)
+
+  pub statements_add : (n : ℕ) (at : Place) (k : ℕ) (b : List Stmt) → IsBodyOf p.model b → (m : Machine)
+      → Adds m.progress (statements_value p (λ at. within p n (Some at) at) at k b m).1.progress
+  statements_add n = statements_value_stays p.model Adds (only_adds p.model) p (λ at. within p n (Some at) at)
+      (called_stays p.model Adds (only_adds p.model) p bodies n)
+
+  pub exec_keeps : (body : List Stmt) → IsBodyOf p.model body → (m : Machine) → KeepsTypes p.model m.progress (outermost p body m).1.progress
   exec_keeps = exec_stays p.model (KeepsTypes p.model) (record {
     none = λ q h. h;
     both = λ q r s f g h. g (f h);
@@ -294,4 +412,5 @@ module _ (p : ProgramParts) where
     inserted = insert_keeps p.model;
     deleted = delete_keeps p.model;
     destroyed = destroyed_keep p.model;
-  }) p
+    framed = λ k q r h. h;
+  }) p bodies 63

@@ -7,6 +7,7 @@ pub mod Acted
 pub mod Bodies
 pub mod Values
 pub mod Targets
+pub mod Calls
 pub mod Statements
 pub mod Parts
 pub mod Exec

@@ -4,7 +4,6 @@ use Rattle.std.specs.Option.{option_map_or}
 use Rattle.use_text.specs.declared.code.Code.{Code}
 use Rattle.use_text.specs.declared.code.Family.TheVariants.{B}
 use Rattle.use_text.specs.declared.place.Place.{Place}
-use Rattle.use_text.specs.declared.refusal.Refusal.{Refusal}
 use Rattle.use_text.specs.Codes.{code_of}
 use Rattle.use_text.specs.Refusals.{refusal_at}
 use Rattle.ocl_values.specs.declared.value.Value.{Value}
@@ -13,6 +12,11 @@ use Rattle.object_state.specs.declared.objects.Variable.{Variable}
 use Rattle.object_state.specs.State.{Diagram, State, object_named, variable}
 use Rattle.soil_changes.specs.Acts.{Act, Outcome, ◌>>◌, refuse}
 use Rattle.soil_changes.specs.Progress.{Changing, Progress, begun, x_code}
+use Rattle.entry_states.specs.declared.frame.Call.{Call}
+use Rattle.entry_states.specs.declared.frame.Frame.{Frame}
+use Rattle.entry_states.specs.Frames.{left, opened}
+use Rattle.soil_exec.specs.declared.fault.ExecFault.{ExecFault}
+use Rattle.soil_exec.specs.declared.fault.ExecFault.TheVariants.{Refused}
 
 -- the names that a command takes from the shell, the values of all further variables, how many statements may still begin, and how many
 -- units evaluations have spent
@@ -23,9 +27,9 @@ pub record Machine : Type 0 where
   pub left : ℕ
   pub steps : ℕ
 
--- acts that may be refused by a rule, at a place
+-- acts that may be refused by a rule, at a place, or by a contract
 abbrev pub Execution : Type 0 → Type 0
-Execution A = Act Machine Refusal A
+Execution A = Act Machine ExecFault A
 
 -- how many statements a command may carry out, and how deep blocks may nest
 abbrev pub max_statements : ℕ
@@ -34,15 +38,15 @@ max_statements = 50000
 abbrev pub max_levels : ℕ
 max_levels = 64
 
-abbrev pub begin : Diagram → List (List ℕ) → List Value → ℕ → Machine
-begin d shell bound steps = record { progress = begun d; shell = shell; locals = bound; left = max_statements; steps = steps }
+abbrev pub begin : Diagram → List Frame → List (List ℕ) → List Value → ℕ → Machine
+begin d fs shell bound steps = record { progress = begun d fs; shell = shell; locals = bound; left = max_statements; steps = steps }
 
 -- a rule of budgets, or of the run of statements, is broken at a place
 abbrev pub breaks_b : {A : Type 0} → ℕ → Place → Execution A
-breaks_b number at = refuse (refusal_at (code_of B number) at)
+breaks_b number at = refuse (Refused (refusal_at (code_of B number) at))
 
 abbrev pub breaks_x : {A : Type 0} → ℕ → Place → Execution A
-breaks_x number at = refuse (refusal_at (x_code number) at)
+breaks_x number at = refuse (Refused (refusal_at (x_code number) at))
 
 -- what is there, or a rule is broken
 abbrev pub or_breaks_x : {A : Type 0} → Option A → ℕ → Place → Execution A
@@ -50,9 +54,9 @@ or_breaks_x (Some a) number at = λ m. (Ok a, m)
 or_breaks_x None number at = breaks_x number at
 
 -- an act on the transaction; what refuses it is told with the place
-abbrev pub placed : {A : Type 0} → Place → Machine → Outcome Progress Code A → Outcome Machine Refusal A
+abbrev pub placed : {A : Type 0} → Place → Machine → Outcome Progress Code A → Outcome Machine ExecFault A
 placed at m (Ok a, p) = (Ok a, record m { progress = p })
-placed at m (Err code, p) = (Err (refusal_at code at), record m { progress = p })
+placed at m (Err code, p) = (Err (Refused (refusal_at code at)), record m { progress = p })
 
 abbrev pub changing : {A : Type 0} → Place → Changing A → Execution A
 changing at act m = placed at m (act m.progress)
@@ -83,3 +87,20 @@ leave n m = (Ok tt, record m { locals = take n m.locals })
 
 abbrev pub scoped : Execution (Unit {0}) → Execution (Unit {0})
 scoped act m = (act >> leave (length m.locals)) m
+
+-- an act with other things bound; then what was bound is bound again, also where it is refused
+abbrev pub bound_again : {A : Type 0} → Machine → Outcome Machine ExecFault A → Outcome Machine ExecFault A
+bound_again m o = (o.0, record o.1 { shell = m.shell; locals = m.locals })
+
+abbrev pub apart : {A : Type 0} → List Value → Execution A → Execution A
+apart vs act m = bound_again m (act (record m { shell = []; locals = vs }))
+
+-- an act in the frame of a call, which is left also where it is refused
+abbrev pub with_frames : List Frame → Machine → Machine
+with_frames fs m = record m { progress = record m.progress { frames = fs } }
+
+abbrev pub frame_left : {A : Type 0} → Outcome Machine ExecFault A → Outcome Machine ExecFault A
+frame_left o = (o.0, with_frames (left o.1.progress.frames) o.1)
+
+abbrev pub in_frame : {A : Type 0} → Call → Execution A → Execution A
+in_frame k act m = frame_left (act (with_frames (opened k ∷ m.progress.frames) m))

@@ -1,9 +1,6 @@
 -- Statements (SOIL): one definition for each form. All expressions of a statement are evaluated before its changes, from left to right.
 use Rattle.std.specs.Prelude.{ℕ, zero, suc, Bool, true, false, if◌then◌else◌, List, Option, Some, Ok, replicate, unwrap_or}
-use Rattle.use_text.specs.declared.code.Family.TheVariants.{S}
 use Rattle.use_text.specs.declared.place.Place.{Place}
-use Rattle.use_text.specs.Codes.{code_of}
-use Rattle.use_text.specs.Refusals.{refusal_at}
 use Rattle.class_model.specs.Parts.{class_name}
 use Rattle.ocl_values.specs.declared.value.Value.{Value}
 use Rattle.ocl_values.specs.declared.value.Value.TheVariants.{Null, Obj}
@@ -13,10 +10,11 @@ use Rattle.ocl_core.specs.declared.statement.Act.{Act, out-Act}
 use Rattle.ocl_core.specs.declared.statement.Act.TheOpen.{Act-F}
 use Rattle.ocl_core.specs.declared.statement.Stmt.{Stmt, out-Stmt}
 use Rattle.ocl_core.specs.declared.statement.Target.{Target}
-use Rattle.soil_changes.specs.Acts.{◌>>=◌, ◌>>◌, each, nothing, pure, refuse}
+use Rattle.soil_changes.specs.Acts.{◌>>=◌, ◌>>◌, each, nothing, pure}
 use Rattle.soil_changes.specs.Creating as creating
 use Rattle.soil_changes.specs.Joining as joining
 use Rattle.soil_changes.specs.Destroying as destroying
+use Rattle.soil_exec.specs.Calls.{call}
 use Rattle.soil_exec.specs.Machine.{Execution, breaks_b, changing, count, push, scoped}
 use Rattle.soil_exec.specs.Targets.{check_holder_if, holder, holder_if, put, put_if}
 use Rattle.soil_exec.specs.Values.{collection, condition, value, value_if, values}
@@ -68,10 +66,6 @@ module _ (p : ProgramParts) where
     v ← value p at e
     put at target object v
 
-  -- no statement calls an operation yet
-  abbrev pub call : Place → Execution (Unit {0})
-  call at = refuse (refusal_at (code_of S 0) at)
-
   -- by what carries a block out one level deeper
   module _ (inside : Place → List Stmt → Execution (Unit {0})) where
     abbrev pub branch : Place → Expr → List Stmt → List Stmt → Execution (Unit {0})
@@ -110,27 +104,34 @@ module _ (p : ProgramParts) where
     abbrev pub while_true : Place → Expr → List Stmt → Execution (Unit {0})
     while_true at test body m = rounds at test body (suc m.left) m
 
-    unfoldable pub act : Place → Layer → Execution (Unit {0})
-    act at (Act-F.New class name target) = new at class name target
-    act at (Act-F.Create names class) = create at names class
-    act at (Act-F.Destroy es) = destroy at es
-    act at (Act-F.Insert assoc first second) = insert at assoc first second
-    act at (Act-F.Delete assoc first second) = delete at assoc first second
-    act at (Act-F.Assign target e) = assign at target e
-    act at (Act-F.Call receiver op args target) = call at
-    act at (Act-F.If test one other) = branch at test one other
-    act at (Act-F.For e body) = for_each at e body
-    act at (Act-F.While test body) = while_true at test body
-    act at (Act-F.Declare n) = declare n
+    -- and what carries out the body of an operation that is called
+    module _ (called : Place → List Stmt → Execution (Unit {0})) where
+      unfoldable pub act : Place → Layer → Execution (Unit {0})
+      act at (Act-F.New class name target) = new at class name target
+      act at (Act-F.Create names class) = create at names class
+      act at (Act-F.Destroy es) = destroy at es
+      act at (Act-F.Insert assoc first second) = insert at assoc first second
+      act at (Act-F.Delete assoc first second) = delete at assoc first second
+      act at (Act-F.Assign target e) = assign at target e
+      act at (Act-F.Call receiver op args target) = call p called at receiver op args target
+      act at (Act-F.If test one other) = branch at test one other
+      act at (Act-F.For e body) = for_each at e body
+      act at (Act-F.While test body) = while_true at test body
+      act at (Act-F.Declare n) = declare n
 
-    -- a statement counts one when it begins: B2 stands at the statement around it, if there is one
-    abbrev pub statement : Option Place → Stmt → Execution (Unit {0})
-    statement outer s = count (unwrap_or outer (out-Stmt s).place) >> act (out-Stmt s).place (out-Act (out-Stmt s).act)
+      -- all that is told of the statements of a called operation is told of the call
+      module _ (told : Option Place) where
+        abbrev place_of : Stmt → Place
+        place_of s = unwrap_or told (out-Stmt s).place
 
-    abbrev pub block : Option Place → List Stmt → Execution (Unit {0})
-    block outer body = each (statement outer) body
+        -- a statement counts one when it begins: B2 stands at the statement around it, if there is one
+        abbrev pub statement : Option Place → Stmt → Execution (Unit {0})
+        statement outer s = count (unwrap_or outer (place_of s)) >> act (place_of s) (out-Act (out-Stmt s).act)
+
+        abbrev pub block : Option Place → List Stmt → Execution (Unit {0})
+        block outer body = each (statement outer) body
 
   -- a block in the statement at a place, where so many levels may still be entered: B3 where there is none
-  unfoldable pub within : ℕ → Place → List Stmt → Execution (Unit {0})
-  within zero at body = breaks_b 3 at
-  within (suc n) at body = scoped (block (within n) (Some at) body)
+  unfoldable pub within : ℕ → Option Place → Place → List Stmt → Execution (Unit {0})
+  within zero told at body = breaks_b 3 at
+  within (suc n) told at body = scoped (block (within n told) (λ at. within n (Some at) at) told (Some at) body)

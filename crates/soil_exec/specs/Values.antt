@@ -2,7 +2,6 @@
 use Rattle.std.specs.Prelude.{ℕ, ◌+◌, ◌-◌, List, [], ◌∷◌, ◌++◌, Option, Some, None, Ok, Err, Bool}
 use Rattle.use_text.specs.declared.code.Family.TheVariants.{B}
 use Rattle.use_text.specs.declared.place.Place.{Place}
-use Rattle.use_text.specs.declared.refusal.Refusal.{Refusal}
 use Rattle.use_text.specs.Codes.{code_of}
 use Rattle.use_text.specs.Refusals.{refusal_at}
 use Rattle.ocl_values.specs.declared.value.Value.{Value}
@@ -17,6 +16,8 @@ use Rattle.ocl_eval.specs.Evaluations as evaluations
 use Rattle.ocl_eval.specs.Scenes.{Scene, scene_of}
 use Rattle.soil_changes.specs.Acts.{Outcome, ◌>>=◌, pure}
 use Rattle.soil_changes.specs.Progress.{diagram_of}
+use Rattle.soil_exec.specs.declared.fault.ExecFault.{ExecFault}
+use Rattle.soil_exec.specs.declared.fault.ExecFault.TheVariants.{Refused}
 use Rattle.soil_exec.specs.Machine.{Execution, Machine, environment, or_breaks_x}
 
 -- all units are spent but those that an evaluation left
@@ -24,9 +25,9 @@ abbrev pub spent : Machine → ℕ → Machine
 spent m fuel = record m { steps = m.steps + max_units - fuel }
 
 -- B1: the budget of the evaluation is spent
-abbrev pub valued : Place → Machine → evaluations.Outcome Value → Outcome Machine Refusal Value
+abbrev pub valued : Place → Machine → evaluations.Outcome Value → Outcome Machine ExecFault Value
 valued at m (Some v, meter) = (Ok v, spent m meter.fuel)
-valued at m (None, meter) = (Err (refusal_at (code_of B 1) at), spent m meter.fuel)
+valued at m (None, meter) = (Err (Refused (refusal_at (code_of B 1) at)), spent m meter.fuel)
 
 -- the value of an expression that is true or false, and the elements of one that is a collection
 abbrev pub as_truth : Value → Option Bool

@@ -1,6 +1,6 @@
 ghost use Rattle.std.specs.Prelude.{◌≡◌, OnOk};
 ghost use Rattle.soil_exec.specs.Bodies.{IsBody};
-ghost use Rattle.soil_exec.specs.Kept.{Follows, Gives, IsCurrent, IsOfModel, stand};
+ghost use Rattle.soil_exec.specs.Kept.{Follows, Gives, HasRoom, IsCurrent, IsOfModel, stand};
 ghost use Rattle.soil_exec.specs.Parts.{inside_in};
 
 use crate::fault::breaks_b;
@@ -20,6 +20,7 @@ pub(crate) fn block_in<S, V: Evaluator<S>>(
 ) -> Result<(), ExecFault>
     requires body { IsBody setting.now.program.now.model body.now }
     requires of_model { IsOfModel setting.now.program.now.model machine.old }
+    requires room { HasRoom setting.now.levels machine.old }
     requires current { IsCurrent machine.old }
     ensures gives { Gives (inside_in setting.now place body.now (stand machine.old (V.count steps.old))) result (stand machine.new (V.count steps.new)) }
     ensures follows { OnOk result (Follows machine.old machine.new) }
@@ -31,6 +32,7 @@ pub(crate) fn block_in<S, V: Evaluator<S>>(
         program: setting.program,
         evaluator: setting.evaluator,
         levels: setting.levels - 1,
+        told: setting.told,
     };
     let walk = Walk {
         setting: inside,

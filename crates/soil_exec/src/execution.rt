@@ -1,4 +1,4 @@
-ghost use Rattle.std.specs.Prelude.{◌≡◌, ◌++◌, ◌<◌, ◌^◌, ℕ, All, Err, IfOk, None, OnOk, length, map, true};
+ghost use Rattle.std.specs.Prelude.{◌≡◌, ◌++◌, ◌<◌, ◌≤◌, ◌^◌, ℕ, All, Err, IfOk, None, OnOk, length, map, true};
 ghost use Rattle.use_orders.specs.Canon.{all_differ};
 ghost use Rattle.ocl_values.specs.Shape.{IsWellMade};
 ghost use Rattle.object_state.specs.Layouts.{layout_of};
@@ -8,15 +8,15 @@ ghost use Rattle.ocl_program.specs.Bodies.{IsBodyOf};
 ghost use Rattle.soil_exec.specs.Bodies.{IsBody};
 ghost use Rattle.soil_exec.specs.Typed.{IsTyped};
 ghost use Rattle.soil_exec.specs.Ending.{Ends, GoesBack};
-ghost use Rattle.soil_exec.specs.Exec.{Tells, exec};
-ghost use Rattle.soil_exec.specs.Kept.{Follows, Gives, IsCurrent, IsOfModel, stand};
+ghost use Rattle.soil_exec.specs.Exec.{Tells, exec, outermost};
+ghost use Rattle.soil_exec.specs.Kept.{Gives, HasRoom, IsCurrent, IsOfModel, stand};
 ghost use Rattle.soil_exec.specs.Machine.{begin, shell_value};
-ghost use Rattle.soil_exec.specs.Statements.{block, within};
 
 use crate::block::block_in;
 use crate::evaluators::Counting;
 use crate::machine::shell_value;
 use crate::{ExecFault, Machine, Setting, Shell, Walk};
+use entry_states::Frames;
 use object_referrers::ReferrerStore;
 use object_state::{Change, Layout, StateReader};
 use ocl_core::Stmt;
@@ -30,7 +30,6 @@ use std::mem;
 use std::sync::ledger::Ledger;
 use use_lists::Items;
 use use_steps::Steps;
-use use_text::Refusal;
 
 /// How many statements may be carried out.
 const MAX_STATEMENTS: u32 = 50_000;
@@ -70,6 +69,20 @@ pub fn environment(
     Ok(Env::new(Items::from_vec(values)))
 }
 
+/// What is the same for all statements of the outermost block.
+pub(crate) fn setting_of<'a, V>(program: &'a Program, evaluator: &'a V) -> Setting<'a, V>
+    ensures program { result.program.now ≡ program.now }
+    ensures levels { result.levels ≡ 63 }
+    ensures told { result.told ≡ None }
+{
+    Setting {
+        program,
+        evaluator,
+        levels: INNER_LEVELS,
+        told: None,
+    }
+}
+
 /// Carries the outermost block out.
 fn run<L: Ledger>(
     program: &Program,
@@ -79,16 +92,12 @@ fn run<L: Ledger>(
 ) -> Result<(), ExecFault>
     requires body { IsBody program.now.model body.now }
     requires of_model { IsOfModel program.now.model machine.old }
+    requires room { HasRoom 64 machine.old }
     requires current { IsCurrent machine.old }
-    ensures gives { Gives (block program.now (within program.now 63) None body.now (stand machine.old steps.old)) result (stand machine.new steps.new) }
+    ensures gives { Gives (outermost program.now body.now (stand machine.old steps.old)) result (stand machine.new steps.new) }
 {
-    let setting = Setting {
-        program,
-        evaluator: &Counting,
-        levels: INNER_LEVELS,
-    };
     let walk = Walk {
-        setting,
+        setting: setting_of(program, &Counting),
         inside: block_in::<Steps<L>, Counting>,
         steps: PhantomData,
     };
@@ -106,29 +115,32 @@ fn no_store(alloc: Global) -> ReferrerStore {
     )
 }
 
-/// What statements work on at first; the store goes there.
-fn begin(
+/// What statements work on at first; the store and the frames go there.
+pub(crate) fn begin(
     alloc: Global,
     program: &Program,
     shell: Items<Text>,
     bound: Vec<Value>,
     store: &mut ReferrerStore,
+    frames: &mut Frames,
 ) -> Result<Machine, AllocError>
     requires few { length shell < 2 ^ 32 }
     requires differ { all_differ text_cmp shell ≡ true }
     requires bound { All IsWellMade bound.items }
     requires of_model { store.old.layout ≡ layout_of program.now.model }
-    ensures begins { IfOk result (λ m. (steps : ℕ) → stand m steps ≡ begin store.old shell bound.items steps) }
+    ensures begins { IfOk result (λ m. (steps : ℕ) → stand m steps ≡ begin store.old frames.old shell bound.items steps) }
     ensures current { IfOk result IsCurrent }
     ensures of_model { IfOk result (IsOfModel program.now.model) }
+    ensures depth { IfOk result (λ m. length m.transaction.frames ≡ length frames.old) }
 {
     program.model().has_numbers_in_range();
     let shell = Shell::new(alloc, shell)?;
     let env = environment(alloc, store, shell.as_slice(), bound)?;
     let taken = mem::replace(store, no_store(alloc));
+    let open = mem::replace(frames, Frames::new(alloc));
     Ok(Machine {
         alloc,
-        transaction: Transaction::begin(alloc, taken),
+        transaction: Transaction::begin(alloc, taken, open),
         shell,
         env,
         left: MAX_STATEMENTS,
@@ -136,15 +148,16 @@ fn begin(
 }
 
 /// What is left of a refused transaction: all changes are taken back.
-fn go_back(transaction: Transaction, refusal: Refusal) -> (ReferrerStore, ExecFault)
-    ensures { GoesBack transaction refusal result.0 (Err result.1) }
+fn go_back(transaction: Transaction, fault: ExecFault) -> (ReferrerStore, Frames, ExecFault)
+    ensures { GoesBack transaction fault result.0 result.1 (Err result.2) }
 {
     let mut transaction = transaction;
+    transaction.changes_lead();
     let back = transaction.roll_back();
-    let (left, _) = transaction.into_parts();
+    let (left, frames, _) = transaction.into_parts();
     match back {
-        Ok(()) => (left, ExecFault::Refused(refusal)),
-        Err(_) => (left, ExecFault::Memory),
+        Ok(()) => (left, frames, fault),
+        Err(_) => (left, frames, ExecFault::Memory),
     }
 }
 
@@ -152,21 +165,21 @@ fn go_back(transaction: Transaction, refusal: Refusal) -> (ReferrerStore, ExecFa
 fn finish(
     transaction: Transaction,
     ended: Result<(), ExecFault>,
-) -> (ReferrerStore, Result<Items<Change>, ExecFault>)
-    ensures { Ends transaction ended result.0 result.1 }
+) -> (ReferrerStore, Frames, Result<Items<Change>, ExecFault>)
+    ensures { Ends transaction ended result.0 result.1 result.2 }
 {
     match ended {
         Ok(()) => {
-            let (left, changes) = transaction.into_parts();
-            (left, Ok(changes))
-        }
-        Err(ExecFault::Refused(refusal)) => {
-            let (left, fault) = go_back(transaction, refusal);
-            (left, Err(fault))
+            let (left, frames, changes) = transaction.into_parts();
+            (left, frames, Ok(changes))
         }
         Err(ExecFault::Memory) => {
-            let (left, _) = transaction.into_parts();
-            (left, Err(ExecFault::Memory))
+            let (left, frames, _) = transaction.into_parts();
+            (left, frames, Err(ExecFault::Memory))
+        }
+        Err(fault) => {
+            let (left, frames, told) = go_back(transaction, fault);
+            (left, frames, Err(told))
         }
     }
 }
@@ -174,8 +187,9 @@ fn finish(
 /// Carries statements out whole or not at all: gives the changes that were made, in their order, or
 /// the first refusal. `shell` are the names that the statements take from the shell, each once; their
 /// values are the first of the environment, and `bound` are those behind them. Each unit that is spent
-/// by an evaluation is counted. After a refusal the store stands for what it stood for; after want of
-/// memory it is in no stated condition.
+/// by an evaluation is counted. The calls that are open stay open, and calls of statements are above
+/// them. After a refusal store and frames stand for what they stood for; after want of memory they are
+/// in no stated condition.
 pub fn execute<L: Ledger>(
     alloc: Global,
     program: &Program,
@@ -183,6 +197,7 @@ pub fn execute<L: Ledger>(
     shell: Items<Text>,
     bound: Vec<Value>,
     store: &mut ReferrerStore,
+    frames: &mut Frames,
     steps: &mut Steps<L>,
 ) -> Result<Items<Change>, ExecFault>
     requires few { length shell < 2 ^ 32 }
@@ -190,14 +205,18 @@ pub fn execute<L: Ledger>(
     requires bound { All IsWellMade bound.items }
     requires body { IsBodyOf program.now.model body.now }
     requires of_model { store.old.layout ≡ layout_of program.now.model }
-    ensures told { Tells store.old (exec program.now body.now shell bound.items store.old) steps.old result store.new steps.new }
+    requires open { length frames.old ≤ 64 }
+    ensures told { Tells store.old frames.old (exec program.now body.now shell bound.items store.old frames.old) steps.old result store.new frames.new steps.new }
     ensures layout { OnOk result (store.new.layout ≡ store.old.layout) }
     ensures lead { IfOk result (λ changes. Lead store.old.layout store.old.state changes store.new.state) }
     ensures typed { OnOk result (IsTyped program.now.model store.old.state → IsTyped program.now.model store.new.state) }
 {
-    let mut machine = begin(alloc, program, shell, bound, store)?;
+    program.is_checked();
+    store.state_is_valid();
+    let mut machine = begin(alloc, program, shell, bound, store, frames)?;
     let ended = run(program, body, &mut machine, steps);
-    let (left, told) = finish(machine.into_transaction(), ended);
+    let (left, open, told) = finish(machine.into_transaction(), ended);
     *store = left;
+    *frames = open;
     told
 }

@@ -1,23 +1,32 @@
 ghost use Rattle.std.specs.Prelude.{◌≡◌};
-ghost use Rattle.use_text.specs.declared.code.Family.TheVariants.{B, S, X};
+ghost use Rattle.use_text.specs.declared.code.Family.TheVariants.{B, C, X};
 ghost use Rattle.use_text.specs.Codes.{code_of};
 ghost use Rattle.use_text.specs.Refusals.{refusal_at};
 ghost use Rattle.soil_changes.specs.declared.fault.ChangeFault.TheVariants as change;
-ghost use Rattle.soil_exec.specs.declared.fault.ExecFault.TheVariants.{Memory, Refused};
+ghost use Rattle.soil_exec.specs.declared.fault.ExecFault.TheVariants.{Broken, Memory, Refused};
 ghost use Rattle.soil_exec.specs.Faults.{fault_at};
 
+use ocl_core::ContractNo;
+use ocl_values::Value;
 use soil_changes::ChangeFault;
 use std::alloc::AllocError;
 use thiserror::Error;
 use use_text::{Code, Family, Place, Refusal};
 
 /// Why a list of statements is not carried out.
-#[derive(Clone, Copy, Debug, PartialEq, Eq, Error)]
+#[derive(Debug, Drop, Error)]
 pub enum ExecFault {
     #[error("out of memory")]
     Memory,
     #[error("{0}")]
     Refused(Refusal),
+    /// The first contract of a call that is not true, and its value: false, null or invalid.
+    #[error("{refusal}")]
+    Broken {
+        refusal: Refusal,
+        contract: ContractNo,
+        value: Value,
+    },
 }
 
 impl From<AllocError> for ExecFault {
@@ -51,11 +60,21 @@ pub(crate) fn breaks_x(number: u8, place: Place) -> ExecFault
     breaks(Family::X, number, place)
 }
 
-/// A form is not built yet.
-pub(crate) fn breaks_s(number: u8, place: Place) -> ExecFault
-    ensures { result ≡ Refused (refusal_at (code_of S number) place) }
+/// A contract of a call is not true: C1 of a precondition, C2 of a postcondition.
+pub(crate) fn breaks_c(number: u8, place: Place, contract: ContractNo, value: Value) -> ExecFault
+    ensures { result ≡ Broken (refusal_at (code_of C number) place) contract value }
 {
-    breaks(Family::S, number, place)
+    ExecFault::Broken {
+        refusal: Refusal {
+            code: Code {
+                family: Family::C,
+                number,
+            },
+            place,
+        },
+        contract,
+        value,
+    }
 }
 
 /// What refuses an act, told with its place.

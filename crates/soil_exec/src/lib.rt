@@ -3,6 +3,9 @@
 
 mod acts;
 mod block;
+mod called;
+mod calls;
+mod commands;
 mod evaluators;
 mod execution;
 mod fault;
@@ -13,6 +16,7 @@ mod targets;
 mod values;
 mod walk;
 
+pub use commands::{call_to_enter, value_to_give};
 use evaluators::Evaluator;
 pub use execution::{environment, execute};
 pub use fault::ExecFault;

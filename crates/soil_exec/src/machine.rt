@@ -145,7 +145,7 @@ impl Machine {
 
     /// Binds anew what the names of the shell stand for that changes were about, since so many were
     /// made.
-    fn refresh(&mut self, since: usize) -> Result<(), AllocError>
+    pub(crate) fn refresh(&mut self, since: usize) -> Result<(), AllocError>
         requires since { since ≤ length self.old.transaction.changes }
         requires bound { length self.old.shell ≤ length self.old.env }
         ensures refreshed { OnOk result (self.new ≡ record self.old { env = refreshed_all self.old.shell self.old.transaction.state self.old.env (drop since self.old.transaction.changes) }) }

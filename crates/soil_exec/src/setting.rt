@@ -1,4 +1,5 @@
 use ocl_program::Program;
+use use_text::Place;
 
 /// What is the same for all statements of a block.
 #[derive(Drop)]
@@ -8,4 +9,6 @@ pub(crate) struct Setting<'a, V> {
     pub(crate) evaluator: &'a V,
     /// How many levels may still be entered.
     pub(crate) levels: u32,
+    /// Where all is told that is told of the body of a called operation.
+    pub(crate) told: Option<Place>,
 }

@@ -1,8 +1,9 @@
 ghost use Rattle.std.specs.Prelude.{◌≡◌, ℕ, IfOk, OnOk};
-ghost use Rattle.std.specs.Option.{ForSome};
+ghost use Rattle.std.specs.Option.{ForSome, option_copied};
 ghost use Rattle.ocl_values.specs.Shape.{IsWellMade};
 ghost use Rattle.soil_changes.specs.Storing.{refuse_unless_stored, set_slot, set_variable};
 ghost use Rattle.soil_exec.specs.Bodies.{TargetIsSound};
+ghost use Rattle.soil_exec.specs.Calls.{check_stored_if};
 ghost use Rattle.soil_exec.specs.Kept.{Follows, Gives, IsCurrent, stand};
 ghost use Rattle.soil_exec.specs.Machine.{changing};
 ghost use Rattle.soil_exec.specs.Targets.{check_attr, check_holder, check_holder_if, holder, holder_if, put, put_if, put_local};
@@ -88,12 +89,27 @@ impl Machine {
     }
 
     /// X12 where a value may not be stored.
-    fn check_stored(&self, place: Place, value: &Value) -> Result<(), ExecFault>
+    pub(crate) fn check_stored(&self, place: Place, value: &Value) -> Result<(), ExecFault>
         ensures { (steps : ℕ) → Gives (changing place (refuse_unless_stored value.now) (stand self.now steps)) result (stand self.now steps) }
     {
         match self.transaction.check_stored(value) {
             Ok(()) => Ok(()),
             Err(fault) => Err(placed(fault, place)),
+        }
+    }
+
+    /// The same of what an operation gives that has a result.
+    pub(crate) fn check_stored_if(
+        &self,
+        place: Place,
+        result_type: Option<&OclType>,
+        value: &Value,
+    ) -> Result<(), ExecFault>
+        ensures { (steps : ℕ) → Gives (check_stored_if place (option_copied result_type.entry) value.now (stand self.now steps)) result (stand self.now steps) }
+    {
+        match result_type {
+            None => Ok(()),
+            Some(_) => self.check_stored(place, value),
         }
     }
 

@@ -1,14 +1,14 @@
-ghost use Rattle.std.specs.Prelude.{◌≡◌, ℕ, OnOk};
+ghost use Rattle.std.specs.Prelude.{◌≡◌, ◌+◌, ℕ, OnOk};
 ghost use Rattle.ocl_values.specs.Shape.{IsWellMade};
 ghost use Rattle.ocl_core.specs.Trees.{IsSound};
 ghost use Rattle.ocl_core.specs.declared.statement.Act.{out-Act};
 ghost use Rattle.soil_exec.specs.Bodies.{ActHolds, HoldsTo, IsBody, IsStatement};
-ghost use Rattle.soil_exec.specs.Kept.{Follows, Gives, IsCurrent, IsOfModel, stand};
-ghost use Rattle.soil_exec.specs.Parts.{Executes, inside_in};
+ghost use Rattle.soil_exec.specs.Kept.{Follows, Gives, HasRoom, IsCurrent, IsOfModel, stand};
+ghost use Rattle.soil_exec.specs.Parts.{Executes, called_in, inside_in};
 ghost use Rattle.soil_exec.specs.Statements as walk;
 ghost use Rattle.soil_exec.specs.Statements.{again, block, branch, for_each, round, turn, while_true};
 
-use crate::fault::{breaks_b, breaks_s};
+use crate::fault::breaks_b;
 use crate::{Evaluator, ExecFault, Machine, Setting};
 use ocl_core::{Act, Expr, Stmt};
 use ocl_values::Value;
@@ -38,6 +38,7 @@ where
         requires inside { Executes V.count self.now.setting.levels (F.pre self.now.inside) (F.post self.now.inside) }
         requires body { IsBody self.now.setting.program.now.model body.now }
         requires of_model { IsOfModel self.now.setting.program.now.model machine.old }
+        requires room { HasRoom self.now.setting.levels machine.old }
         requires current { IsCurrent machine.old }
         ensures gives { Gives (inside_in self.now.setting place body.now (stand machine.old (V.count steps.old))) result (stand machine.new (V.count steps.new)) }
         ensures follows { OnOk result (Follows machine.old machine.new) }
@@ -59,6 +60,7 @@ where
         requires one { IsBody self.now.setting.program.now.model one.now }
         requires other { IsBody self.now.setting.program.now.model other.now }
         requires of_model { IsOfModel self.now.setting.program.now.model machine.old }
+        requires room { HasRoom (self.now.setting.levels + 1) machine.old }
         requires current { IsCurrent machine.old }
         ensures gives { Gives (branch self.now.setting.program.now (inside_in self.now.setting) place test.now one.now other.now (stand machine.old (V.count steps.old))) result (stand machine.new (V.count steps.new)) }
         ensures follows { OnOk result (Follows machine.old machine.new) }
@@ -80,6 +82,7 @@ where
         requires body { IsBody self.now.setting.program.now.model body.now }
         requires well_made { IsWellMade value }
         requires of_model { IsOfModel self.now.setting.program.now.model machine.old }
+        requires room { HasRoom (self.now.setting.levels + 1) machine.old }
         requires current { IsCurrent machine.old }
         ensures gives { Gives (turn self.now.setting.program.now (inside_in self.now.setting) place body.now value (stand machine.old (V.count steps.old))) result (stand machine.new (V.count steps.new)) }
         ensures follows { OnOk result (Follows machine.old machine.new) }
@@ -104,6 +107,7 @@ where
         requires tree { IsSound e.now }
         requires body { IsBody self.now.setting.program.now.model body.now }
         requires of_model { IsOfModel self.now.setting.program.now.model machine.old }
+        requires room { HasRoom (self.now.setting.levels + 1) machine.old }
         requires current { IsCurrent machine.old }
         ensures gives { Gives (for_each self.now.setting.program.now (inside_in self.now.setting) place e.now body.now (stand machine.old (V.count steps.old))) result (stand machine.new (V.count steps.new)) }
         ensures follows { OnOk result (Follows machine.old machine.new) }
@@ -126,6 +130,7 @@ where
         requires inside { Executes V.count self.now.setting.levels (F.pre self.now.inside) (F.post self.now.inside) }
         requires body { IsBody self.now.setting.program.now.model body.now }
         requires of_model { IsOfModel self.now.setting.program.now.model machine.old }
+        requires room { HasRoom (self.now.setting.levels + 1) machine.old }
         requires current { IsCurrent machine.old }
         ensures gives { Gives (again self.now.setting.program.now (inside_in self.now.setting) place body.now (stand machine.old (V.count steps.old))) result (stand machine.new (V.count steps.new)) }
         ensures follows { OnOk result (Follows machine.old machine.new) }
@@ -148,6 +153,7 @@ where
         requires tree { IsSound test.now }
         requires body { IsBody self.now.setting.program.now.model body.now }
         requires of_model { IsOfModel self.now.setting.program.now.model machine.old }
+        requires room { HasRoom (self.now.setting.levels + 1) machine.old }
         requires current { IsCurrent machine.old }
         ensures gives { Gives (round self.now.setting.program.now (inside_in self.now.setting) place test.now body.now (stand machine.old (V.count steps.old))) result (stand machine.new (V.count steps.new)) }
         ensures follows { OnOk result (Follows machine.old machine.new) }
@@ -172,6 +178,7 @@ where
         requires tree { IsSound test.now }
         requires body { IsBody self.now.setting.program.now.model body.now }
         requires of_model { IsOfModel self.now.setting.program.now.model machine.old }
+        requires room { HasRoom (self.now.setting.levels + 1) machine.old }
         requires current { IsCurrent machine.old }
         ensures gives { Gives (while_true self.now.setting.program.now (inside_in self.now.setting) place test.now body.now (stand machine.old (V.count steps.old))) result (stand machine.new (V.count steps.new)) }
         ensures follows { OnOk result (Follows machine.old machine.new) }
@@ -198,8 +205,9 @@ where
         requires inside { Executes V.count self.now.setting.levels (F.pre self.now.inside) (F.post self.now.inside) }
         requires sound { (n : ℕ) → ActHolds self.now.setting.program.now.model (HoldsTo self.now.setting.program.now.model n) (out-Act act.now) }
         requires of_model { IsOfModel self.now.setting.program.now.model machine.old }
+        requires room { HasRoom (self.now.setting.levels + 1) machine.old }
         requires current { IsCurrent machine.old }
-        ensures gives { Gives (walk.act self.now.setting.program.now (inside_in self.now.setting) place (out-Act act.now) (stand machine.old (V.count steps.old))) result (stand machine.new (V.count steps.new)) }
+        ensures gives { Gives (walk.act self.now.setting.program.now (inside_in self.now.setting) (called_in self.now.setting) place (out-Act act.now) (stand machine.old (V.count steps.old))) result (stand machine.new (V.count steps.new)) }
         ensures follows { OnOk result (Follows machine.old machine.new) }
     {
         let setting = &self.setting;
@@ -222,7 +230,20 @@ where
                 second,
             } => machine.delete(setting, place, *assoc, first, second, steps),
             Act::Assign { target, value } => machine.assign(setting, place, target, value, steps),
-            Act::Call { .. } => Err(breaks_s(0, place)),
+            Act::Call {
+                receiver,
+                op,
+                args,
+                target,
+            } => self.call(
+                place,
+                receiver,
+                *op,
+                args.as_slice(),
+                target,
+                machine,
+                steps,
+            ),
             Act::If {
                 test,
                 yes: one,
@@ -259,12 +280,14 @@ where
         requires inside { Executes V.count self.now.setting.levels (F.pre self.now.inside) (F.post self.now.inside) }
         requires sound { IsStatement self.now.setting.program.now.model statement.now }
         requires of_model { IsOfModel self.now.setting.program.now.model machine.old }
+        requires room { HasRoom (self.now.setting.levels + 1) machine.old }
         requires current { IsCurrent machine.old }
-        ensures gives { Gives (walk.statement self.now.setting.program.now (inside_in self.now.setting) outer statement.now (stand machine.old (V.count steps.old))) result (stand machine.new (V.count steps.new)) }
+        ensures gives { Gives (walk.statement self.now.setting.program.now (inside_in self.now.setting) (called_in self.now.setting) self.now.setting.told outer statement.now (stand machine.old (V.count steps.old))) result (stand machine.new (V.count steps.new)) }
         ensures follows { OnOk result (Follows machine.old machine.new) }
     {
-        machine.count(outer.unwrap_or(statement.place))?;
-        self.act(statement.place, &statement.act, machine, steps)
+        let place = self.setting.told.unwrap_or(statement.place);
+        machine.count(outer.unwrap_or(place))?;
+        self.act(place, &statement.act, machine, steps)
     }
 
     pub(crate) fn block(
@@ -277,8 +300,9 @@ where
         requires inside { Executes V.count self.now.setting.levels (F.pre self.now.inside) (F.post self.now.inside) }
         requires body { IsBody self.now.setting.program.now.model body.now }
         requires of_model { IsOfModel self.now.setting.program.now.model machine.old }
+        requires room { HasRoom (self.now.setting.levels + 1) machine.old }
         requires current { IsCurrent machine.old }
-        ensures gives { Gives (block self.now.setting.program.now (inside_in self.now.setting) outer body.now (stand machine.old (V.count steps.old))) result (stand machine.new (V.count steps.new)) }
+        ensures gives { Gives (block self.now.setting.program.now (inside_in self.now.setting) (called_in self.now.setting) self.now.setting.told outer body.now (stand machine.old (V.count steps.old))) result (stand machine.new (V.count steps.new)) }
         ensures follows { OnOk result (Follows machine.old machine.new) }
     {
         let mut rest = body;

@@ -62,6 +62,11 @@ module _ (l : Layout) where
   past_fewer (suc n) [] p = refl
   past_fewer (suc n) (e ∷ es) p = ap (λ ms. moment (back l e p) e.changes ∷ ms) (past_fewer n es (back l e p))
 
+  -- over frames that have grown, and open the same calls, it means what it meant
+  pub grown_whole : (h : Kept) (s : State) (fs gs : List Frame) → point l s gs ≡ point l s fs → Grown fs gs → IsWhole l h s fs → IsWhole l h s gs
+  grown_whole h s fs gs same grown w =
+      (subst (λ p. LeadHere l h.past p gs) (sym same) (here_more h.past (point l s fs) fs gs w.0 grown), subst (LeadOn l h.future) (sym same) w.1)
+
   module _ (s t : State) (fs hs : List Frame) where
     pub undo_whole : (h k m : Kept) (e again : Entry) → h ≡ record k { past = e ∷ k.past } → m ≡ record k { future = again ∷ k.future }
         → IsWhole l h s fs → LedBack l s fs e again t hs → IsWhole l m t hs

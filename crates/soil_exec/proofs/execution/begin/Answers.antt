@@ -15,21 +15,21 @@ begin-requires c =
 pub returns-clause-begins : goal.returns-clause-begins
 returns-clause-begins c =
     let k : Kept = record { alloc = c.args.alloc; transaction = c.begin.result; shell = c.in_ok-shell.shell; env = c.in_ok-env.env; left = max_statements } in
-    let progress : k.transaction ≡ begun c.args.store.now = c.begin.ensures ∙ ap begun c.replace-taken.ensures.value in
+    let progress : k.transaction ≡ begun c.args.store.now c.args.frames.now = c.begin.ensures ∙ (λ i. begun (c.replace-taken.ensures.value i) (c.replace-open.ensures.value i)) in
     let env : k.env ≡ map (shell_value c.args.store.now.state) c.args.shell ++ c.args.bound.items =
     c.in_ok-env.ensures
     ∙ ap (λ (names : List (List ℕ)). map (shell_value c.args.store.now.state) names ++ c.args.bound.items) (c.as_slice.ensures ∙ c.in_ok-shell.ensures) in
-    λ steps. first_stand c.args.store.now c.args.shell c.args.bound.items k progress c.in_ok-shell.ensures env steps refl
+    λ steps. first_stand c.args.store.now c.args.shell c.args.bound.items c.args.frames.now k progress c.in_ok-shell.ensures env steps refl
 
 pub returns-clause-current : goal.returns-clause-current
 returns-clause-current c =
     let k : Kept = record { alloc = c.args.alloc; transaction = c.begin.result; shell = c.in_ok-shell.shell; env = c.in_ok-env.env; left = max_statements } in
-    let progress : k.transaction ≡ begun c.args.store.now = c.begin.ensures ∙ ap begun c.replace-taken.ensures.value in
+    let progress : k.transaction ≡ begun c.args.store.now c.args.frames.now = c.begin.ensures ∙ (λ i. begun (c.replace-taken.ensures.value i) (c.replace-open.ensures.value i)) in
     let env : k.env ≡ map (shell_value c.args.store.now.state) c.args.shell ++ c.args.bound.items =
     c.in_ok-env.ensures
     ∙ ap (λ (names : List (List ℕ)). map (shell_value c.args.store.now.state) names ++ c.args.bound.items) (c.as_slice.ensures ∙ c.in_ok-shell.ensures) in
-    first_current c.args.store.now c.args.shell c.args.bound.items k progress c.in_ok-shell.ensures env
+    first_current c.args.store.now c.args.shell c.args.bound.items c.args.frames.now k progress c.in_ok-shell.ensures env
 
 pub returns-clause-of_model : goal.returns-clause-of_model
 returns-clause-of_model c =
-    ap (λ (p : Progress). p.layout) (c.begin.ensures ∙ ap begun c.replace-taken.ensures.value) ∙ c.requires.of_model
+    ap (λ (p : Progress). p.layout) c.begin.ensures ∙ ap (λ (d : Diagram). d.layout) c.replace-taken.ensures.value ∙ c.requires.of_model

@@ -1,6 +1,6 @@
 use Rattle.std.proofs.Common.{rules, ◌≡◌, All, Err, List, sym, subst, ◌∙◌}
 use Rattle.std.proofs.lemmas.List.Elements.{All-push}
-use Rattle.use_text.specs.declared.refusal.Refusal.{Refusal}
+use Rattle.soil_exec.specs.declared.fault.ExecFault.{ExecFault}
 use Rattle.ocl_values.specs.declared.value.Value.{Value}
 use Rattle.ocl_values.specs.Shape.{IsWellMade}
 use Rattle.soil_changes.specs.Acts.{Outcome}
@@ -20,8 +20,8 @@ returns-in_err-value-clause-gives g c =
     let e = c.in_err-value.field-0.0 in
     let r = c.from_residual.result in
     let is : r ≡ Err e = search rules in
-    subst (λ (o : Outcome Machine Refusal (List Value)). Gives o r after) c.expressions.invariant.same
-    (subst (λ (o : Outcome Machine Refusal (List Value)). Gives o r after)
+    subst (λ (o : Outcome Machine ExecFault (List Value)). Gives o r after) c.expressions.invariant.same
+    (subst (λ (o : Outcome Machine ExecFault (List Value)). Gives o r after)
     (sym (values_step p c.args.place c.expressions.values c.args.es.now n c.e-item.result m c.expressions-test.true c.e-item.is))
     (fails_as (value p c.args.place c.e-item.result m) (further p c.args.place c.expressions.values c.args.es.now n) e after r is c.in_err-value.ensures.gives))
 
@@ -36,6 +36,7 @@ expressions-preserved g c = record {
     current = c.in_ok-value.ensures.follows.current;
     layout = c.in_ok-value.ensures.follows.layout ∙ c.expressions.invariant.follows.layout;
     shell = c.in_ok-value.ensures.follows.shell ∙ c.expressions.invariant.follows.shell;
+    depth = c.in_ok-value.ensures.follows.depth ∙ c.expressions.invariant.follows.depth;
   };
   well_made = subst (All IsWellMade) (sym c.in_ok-push.ensures.ok) (All-push IsWellMade c.expressions.values c.in_ok-value.value c.expressions.invariant.well_made
       c.in_ok-value.ensures.well_made);

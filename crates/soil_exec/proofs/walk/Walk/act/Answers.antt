@@ -2,10 +2,11 @@ use Rattle.std.proofs.Common.{rules, ◌≡◌, ℕ, All, List, sym, subst, ap, 
 use Rattle.ocl_core.specs.declared.statement.Act.{out-Act, the_lemmas}
 use Rattle.ocl_core.specs.declared.statement.Act.TheOpen.{Act-F}
 use Rattle.ocl_core.specs.declared.statement.Act.TheVariants as A
+use Rattle.ocl_core.specs.declared.expression.Expr.{Expr}
 use Rattle.ocl_core.specs.Trees.{IsSound}
 use Rattle.soil_exec.specs.Bodies.{IsBody}
 use Rattle.soil_exec.specs.Kept.{stand}
-use Rattle.soil_exec.specs.Parts.{inside_in}
+use Rattle.soil_exec.specs.Parts.{called_in, inside_in}
 use Rattle.soil_exec.specs.Statements.{act}
 use Rattle.soil_exec.proofs.Layers.{gives_as}
 use Rattle.soil_exec.proofs.Sound.{act_as, all_hold, assoc_known, class_known}
@@ -103,20 +104,50 @@ unfolding act
 returns-in-Create-clause-gives g c =
     let n = g.V.Evaluator.count c.args.steps.now in
     let out : out-Act (A.Create c.in-Create.names c.in-Create.class) ≡ Act-F.Create c.in-Create.names c.in-Create.class = search (rules, the_lemmas) in
-    gives_as c.args.self.now.setting.program.now (inside_in c.args.self.now.setting) c.args.place _ _ (Act-F.Create c.as_slice.result.now c.in-Create.class)
+    gives_as c.args.self.now.setting.program.now (inside_in c.args.self.now.setting) (called_in c.args.self.now.setting) c.args.place _ _ (Act-F.Create c.as_slice.result.now c.in-Create.class)
     (stand c.args.machine.now n) (stand c.create.new.self n) c.create.result c.in-Create.is (out ∙ ap (λ (names : List (List ℕ)). Act-F.Create names c.in-Create.class)
     (sym c.as_slice.ensures)) (c.create.ensures.gives n)
 
 pub returns-in-Insert-clause-gives : goal.returns-in-Insert-clause-gives
 unfolding act
 returns-in-Insert-clause-gives g c =
-    gives_as c.args.self.now.setting.program.now (inside_in c.args.self.now.setting) c.args.place _ _
+    gives_as c.args.self.now.setting.program.now (inside_in c.args.self.now.setting) (called_in c.args.self.now.setting) c.args.place _ _
     (Act-F.Insert c.in-Insert.assoc c.in-Insert.first c.in-Insert.second) (stand c.args.machine.now (g.V.Evaluator.count c.args.steps.now))
     (stand c.insert.new.self (g.V.Evaluator.count c.insert.new.steps)) c.insert.result c.in-Insert.is (search (rules, the_lemmas)) c.insert.ensures.gives
 
 pub returns-in-Delete-clause-gives : goal.returns-in-Delete-clause-gives
 unfolding act
 returns-in-Delete-clause-gives g c =
-    gives_as c.args.self.now.setting.program.now (inside_in c.args.self.now.setting) c.args.place _ _
+    gives_as c.args.self.now.setting.program.now (inside_in c.args.self.now.setting) (called_in c.args.self.now.setting) c.args.place _ _
     (Act-F.Delete c.in-Delete.assoc c.in-Delete.first c.in-Delete.second) (stand c.args.machine.now (g.V.Evaluator.count c.args.steps.now))
     (stand c.delete.new.self (g.V.Evaluator.count c.delete.new.steps)) c.delete.result c.in-Delete.is (search (rules, the_lemmas)) c.delete.ensures.gives
+
+pub call-requires-clause-op : goal.call-requires-clause-op
+call-requires-clause-op g c =
+    (act_as c.args.self.now.setting.program.now.model _ _ (Act-F.Call c.in-Call.receiver c.in-Call.op c.in-Call.args c.in-Call.target) c.requires.sound c.in-Call.is
+    (search (rules, the_lemmas)) 0).0
+
+pub call-requires-clause-receiver : goal.call-requires-clause-receiver
+call-requires-clause-receiver g c =
+    (act_as c.args.self.now.setting.program.now.model _ _ (Act-F.Call c.in-Call.receiver c.in-Call.op c.in-Call.args c.in-Call.target) c.requires.sound c.in-Call.is
+    (search (rules, the_lemmas)) 0).1
+
+pub call-requires-clause-args : goal.call-requires-clause-args
+call-requires-clause-args g c =
+    subst (All IsSound) (sym c.as_slice-in-Call.ensures)
+    (act_as c.args.self.now.setting.program.now.model _ _ (Act-F.Call c.in-Call.receiver c.in-Call.op c.in-Call.args c.in-Call.target) c.requires.sound c.in-Call.is
+    (search (rules, the_lemmas)) 0).2
+
+pub call-requires-clause-target : goal.call-requires-clause-target
+call-requires-clause-target g c =
+    (act_as c.args.self.now.setting.program.now.model _ _ (Act-F.Call c.in-Call.receiver c.in-Call.op c.in-Call.args c.in-Call.target) c.requires.sound c.in-Call.is
+    (search (rules, the_lemmas)) 0).3
+
+pub returns-in-Call-clause-gives : goal.returns-in-Call-clause-gives
+unfolding act
+returns-in-Call-clause-gives g c =
+    let s = c.args.self.now.setting in
+    let layer = λ (args : List Expr). Act-F.Call c.in-Call.receiver c.in-Call.op args c.in-Call.target in
+    let out : out-Act (A.Call c.in-Call.receiver c.in-Call.op c.in-Call.args c.in-Call.target) ≡ layer c.in-Call.args = search (rules, the_lemmas) in
+    gives_as s.program.now (inside_in s) (called_in s) c.args.place _ _ (layer c.as_slice-in-Call.result.now) (stand c.args.machine.now (g.V.Evaluator.count c.args.steps.now))
+    (stand c.call.new.machine (g.V.Evaluator.count c.call.new.steps)) c.call.result c.in-Call.is (out ∙ ap layer (sym c.as_slice-in-Call.ensures)) c.call.ensures.gives

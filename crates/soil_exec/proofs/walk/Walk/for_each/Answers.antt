@@ -21,6 +21,7 @@ turns-preserved g c =
         current = c.in_ok-turn.ensures.follows.current;
         layout = c.in_ok-turn.ensures.follows.layout ∙ c.turns.invariant.follows.layout;
         shell = c.in_ok-turn.ensures.follows.shell ∙ c.turns.invariant.follows.shell;
+        depth = c.in_ok-turn.ensures.follows.depth ∙ c.turns.invariant.follows.depth;
       };
       well_made = All-tail IsWellMade c.in-Some.value (into_iter_items c.next.new.self)
           (subst (All IsWellMade) c.in-Some.ensures.steps.0 c.turns.invariant.well_made);

@@ -1,5 +1,5 @@
 use Rattle.std.proofs.Common.{rules, ◌≡◌, ◌-◌, Err, sym, subst, ◌∙◌}
-use Rattle.use_text.specs.declared.refusal.Refusal.{Refusal}
+use Rattle.soil_exec.specs.declared.fault.ExecFault.{ExecFault}
 use Rattle.soil_changes.specs.Acts.{Outcome}
 use Rattle.soil_exec.specs.Kept.{Gives, stand}
 use Rattle.soil_exec.specs.Machine.{Machine}
@@ -17,8 +17,8 @@ returns-in_err-more-clause-gives g c =
     let e = c.in_err-more.field-0.0 in
     let r = c.from_residual.result in
     let is : r ≡ Err e = search rules in
-    subst (λ (o : Outcome Machine Refusal (Unit {0})). Gives o r after) c.rounds.invariant.same
-    (subst (λ (o : Outcome Machine Refusal (Unit {0})). Gives o r after)
+    subst (λ (o : Outcome Machine ExecFault (Unit {0})). Gives o r after) c.rounds.invariant.same
+    (subst (λ (o : Outcome Machine ExecFault (Unit {0})). Gives o r after)
     (sym (rounds_step p within c.args.place c.args.test.now c.args.body.now c.rounds.most m c.rounds-test.true))
     (fails_as _ (onward p within c.args.place c.args.test.now c.args.body.now (c.rounds.most - 1)) e after r is c.in_err-more.ensures.gives))
 
@@ -40,5 +40,6 @@ rounds-preserved g c = record {
     current = c.in_ok-more.ensures.follows.current;
     layout = c.in_ok-more.ensures.follows.layout ∙ c.rounds.invariant.follows.layout;
     shell = c.in_ok-more.ensures.follows.shell ∙ c.rounds.invariant.follows.shell;
+    depth = c.in_ok-more.ensures.follows.depth ∙ c.rounds.invariant.follows.depth;
   };
 }

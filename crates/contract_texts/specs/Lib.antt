@@ -1,0 +1,2 @@
+pub mod ContractLines
+pub mod Calls
