@@ -32,9 +32,8 @@ module _ (k : Kept) (h : IsKept k) where
         kept = record {
           layout = h.layout;
           capacity = h.capacity;
-          past = h.past;
-          types = h.types;
-          future = h.future;
+          whole = h.whole;
+          proper = h.proper;
           structure = h.structure;
           cache = h.cache ∙ sym same;
         };

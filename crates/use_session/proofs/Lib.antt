@@ -1,13 +1,15 @@
-pub mod Called
-pub mod Scoping
 pub mod Unlinked
 pub mod Stamps
 pub mod Led
 pub mod Emptied
 pub mod Keeping
+pub mod Framed
+pub mod Scoping
 pub mod Noted
 pub mod Told
 pub mod Stepped
+pub mod Entered
+pub mod Opening
 pub mod Evaluated
 pub mod Executed
 pub mod Judged

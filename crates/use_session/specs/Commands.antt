@@ -1,13 +1,17 @@
 -- Commands of the stream, as they are read.
-use Rattle.std.specs.Prelude.{ℕ, List}
+use Rattle.std.specs.Prelude.{ℕ, Bool, false, if◌then◌else◌, List, Option, nat_eq, slice_get}
+use Rattle.std.specs.Option.{option_map_or}
 use Rattle.use_text.specs.declared.cut.Cut.{Cut}
 use Rattle.use_text.specs.declared.cut.Fate.{Fate}
 use Rattle.use_text.specs.declared.cut.Fate.TheVariants.{Whole, TooLong, Unfinished}
 use Rattle.use_text.specs.declared.token.Token.{Token}
+use Rattle.use_text.specs.declared.token.TokenKind.{TokenKind}
+use Rattle.use_text.specs.declared.token.TokenKind.TheVariants as k
 use Rattle.use_text.specs.declared.place.Place.{Place}
 use Rattle.use_text.specs.declared.code.Family.TheVariants.{K, S}
 use Rattle.use_text.specs.declared.refusal.Refusal.{Refusal}
 use Rattle.use_text.specs.Codes.{code_of}
+use Rattle.use_text.specs.Kinds.{number_of}
 use Rattle.use_text.specs.Places.{place_at}
 use Rattle.use_text.specs.Refusals.{refusal_at}
 use Rattle.use_syntax.specs.Reading.{Reading, refused, place_in, place_of_first, read_command}
@@ -30,3 +34,20 @@ reading_of cut = reading_of_fate cut.fate cut.first_line cut.text
 -- the places of its first token and of the one behind it
 abbrev pub start_of : ℕ → List Token → Start
 start_of line ts = record { first = place_of_first line ts; second = place_in ts 1 }
+
+-- the word of a command stands behind `!`, where that is its first token
+abbrev pub has_kind : TokenKind → Option Token → Bool
+has_kind kind t = option_map_or (λ t. nat_eq t.kind (number_of kind)) t false
+
+abbrev pub has_mark : List Token → Bool
+has_mark ts = has_kind k.Bang (slice_get ts 0)
+
+abbrev pub word_index : List Token → ℕ
+word_index ts = if has_mark ts then 1 else 0
+
+abbrev pub word_place : Start → List Token → Place
+word_place at ts = if has_mark ts then at.second else at.first
+
+-- the word is `opexit`
+abbrev pub is_exit : List Token → Bool
+is_exit ts = has_kind k.Opexit (slice_get ts (word_index ts))

@@ -4,8 +4,8 @@ pub mod Readings
 pub mod Shell
 pub mod Unbuilt
 pub mod Running
-pub mod Moments
 pub mod Resetting
+pub mod Frames
 pub mod Answers
 pub mod Reports
 pub mod Machine

@@ -1,10 +1,14 @@
 ghost use Rattle.std.specs.Prelude.{◌≡◌, ◌++◌, OnOk, IfOk};
+ghost use Rattle.contract_texts.specs.ContractLines.{broken_line};
 ghost use Rattle.use_session.specs.Answers.{refusal_line, value_line};
 ghost use Rattle.use_session.specs.declared.session.Turn.TheVariants as turn;
 
 use crate::Turn;
 use class_model::{ClassModel, OclType};
+use contract_texts::append_broken;
 use object_referrers::ReferrerStore;
+use ocl_core::ContractNo;
+use ocl_program::Program;
 use ocl_values::Value;
 use std::alloc::{AllocError, Global};
 use use_info::{append_type, append_value};
@@ -51,4 +55,20 @@ pub(crate) fn refuse_at(code: Code, place: Place, out: &mut Vec<u8>) -> Result<T
     ensures turn { IfOk result (λ t. t ≡ turn.Refused code) }
 {
     refuse(Refusal { code, place }, out)
+}
+
+/// Answers a command that a contract refuses, which is named with its value.
+pub(crate) fn refuse_broken(
+    alloc: Global,
+    program: &Program,
+    refusal: Refusal,
+    contract: ContractNo,
+    value: &Value,
+    out: &mut Vec<u8>,
+) -> Result<Turn, AllocError>
+    ensures bytes { OnOk result (out.new.items ≡ out.old.items ++ broken_line program.now refusal contract value.now) }
+    ensures turn { IfOk result (λ t. t ≡ turn.Refused refusal.code) }
+{
+    append_broken(alloc, program, refusal, contract, value, out)?;
+    Ok(Turn::Refused(refusal.code))
 }

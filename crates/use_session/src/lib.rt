@@ -3,6 +3,8 @@
 #![tactic(auto)]
 
 mod answers;
+mod bindings;
+mod exits;
 mod file_word;
 mod machine;
 mod moments;

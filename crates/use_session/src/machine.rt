@@ -1,26 +1,28 @@
-ghost use Rattle.std.specs.Prelude.{ℕ, List, ◌≡◌, ◌+◌, ◌++◌, [], ◌∷◌, All, IfOk, OnOk, length, map, take, true, None, Ok};
+ghost use Rattle.std.specs.Prelude.{ℕ, List, ◌≡◌, ◌<◌, ◌+◌, ◌++◌, ◌∷◌, [], All, IfOk, OnOk, Ok, length, nat_eq, take, true};
+ghost use Rattle.std.specs.Option.{ForSome, option_copied};
 ghost use Rattle.use_text.specs.Cuts.{IsCommand};
 ghost use Rattle.use_text.specs.Limits.{max_lines};
 ghost use Rattle.use_text.specs.Tokens.{IsWithin};
 ghost use Rattle.grammar_core.specs.Arena.{root_tree};
+ghost use Rattle.ocl_values.specs.Shape.{IsWellMade};
 ghost use Rattle.ocl_core.specs.Trees.{IsSound};
 ghost use Rattle.ocl_eval.specs.Evaluation.{eval, max_units, told};
 ghost use Rattle.ocl_program.specs.Bodies.{IsBodyOf};
 ghost use Rattle.ocl_rules.specs.Typings.{Tells};
+ghost use Rattle.entry_states.specs.Frames.{opened as frame_of};
+ghost use Rattle.contract_frames.specs.Entering.{IsCall};
+ghost use Rattle.contract_frames.specs.Holding.{all_true};
+ghost use Rattle.contract_frames.specs.Judging.{pre_units, pres};
 ghost use Rattle.soil_check.specs.Checks.{AreNames, IsTopicOf};
-ghost use Rattle.soil_check.specs.Commands.{command_in};
-ghost use Rattle.soil_exec.specs.Machine.{shell_value};
-ghost use Rattle.undo_log.specs.declared.frame_move.FrameMove.TheVariants as moves;
-ghost use Rattle.use_session.specs.Answering.{Answers, TellsFault};
+ghost use Rattle.use_session.specs.Answering.{Answers, TellsFault, TellsFrameFault, TellsNoneLeft};
 ghost use Rattle.use_session.specs.Answers.{info_text};
 ghost use Rattle.use_session.specs.Kept.{IsKept, machine_of};
 ghost use Rattle.use_session.specs.FileWords.{file_name, first_place, is_open, judged};
-ghost use Rattle.use_session.specs.Machine.{accepted, answered, carried_out, counts, check_step, execute, opened, query, redone, reset, scene, silent, start, turn_of_check, undone};
+ghost use Rattle.use_session.specs.Machine.{accepted, answered, carried_out, check_step, checked, counts, diagram, enter, entered_unless, environment, execute, exit, left_by, max_open, open_calls, opened, query, redone, reset, scene, silent, start, turn_of_check, turn_of_posts, undone};
 ghost use Rattle.use_session.specs.Running.{MayRun};
-ghost use Rattle.use_session.specs.Shell.{known};
-ghost use Rattle.use_session.specs.declared.session.Turn.TheVariants as turn;
 
-use crate::answers::{append_value_line, refuse, refuse_at};
+use crate::answers::{append_value_line, refuse, refuse_at, refuse_broken};
+use crate::bindings::{bound_values, top_bindings};
 use crate::file_word::{file_name, first_place, judged};
 use crate::moments::{carry_out_again, take_back};
 use crate::noting::{note_all, note_all_back};
@@ -28,16 +30,19 @@ use crate::report::{append_check, finds_nothing};
 use crate::resetting::clear;
 use crate::unbuilt::is_unbuilt;
 use crate::{Start, StoreScope, Turn};
-use class_model::OclType;
+use class_model::{OclType, OpNo};
+use contract_frames::{FrameFault, enter, leave};
+use contract_texts::{append_calls, append_posts, append_pres, are_met};
+use entry_states::{Call, Frame, Frames, Overlay};
 use invariant_cache::{Cache, Structure};
 use object_referrers::ReferrerStore;
 use object_state::{Cells, Change, Layout, StateReader};
-use ocl_core::{Expr, Stmt};
+use ocl_core::{ContractNo, Expr, Stmt};
 use ocl_eval::{Outcome, evaluate_in};
 use ocl_program::Program;
-use ocl_values::Text;
+use ocl_values::{Text, Value};
 use soil_check::{Checked, Topic, TypeFault, check_command};
-use soil_exec::{ExecFault, environment, execute};
+use soil_exec::{ExecFault, call_to_enter, environment, execute, value_to_give};
 use std::alloc::{AllocError, Global};
 use std::sync::ledger::Ledger;
 use undo_log::{Entry, FrameMove, History};
@@ -45,7 +50,7 @@ use use_info::{append_class, append_model, append_state, append_variables};
 use use_lists::Items;
 use use_steps::Steps;
 use use_syntax::Parsed;
-use use_text::{Code, Cut, Family, Place};
+use use_text::{Code, Cut, Family, Place, Refusal};
 
 /// The most commands that can be taken back.
 const MAX_HISTORY: u32 = 1_000;
@@ -54,6 +59,21 @@ const MAX_HISTORY: u32 = 1_000;
 const B1: Code = Code {
     family: Family::B,
     number: 1,
+};
+
+/// The most calls that may be open.
+const MAX_OPEN: u32 = 64;
+
+/// A precondition is not true.
+const C1: Code = Code {
+    family: Family::C,
+    number: 1,
+};
+
+/// Too many operations are open.
+const C4: Code = Code {
+    family: Family::C,
+    number: 4,
 };
 
 /// There is nothing to undo.
@@ -69,36 +89,96 @@ const U2: Code = Code {
 };
 
 /// What a session keeps from one command to the next: the model's program, one store with the
-/// multiplicities that its state breaks, the changes that lead from its state to those before and after,
-/// and what is known of the invariants.
+/// multiplicities that its state breaks, the frames of the calls that are open, the changes that lead
+/// from its state to those before and after, and what is known of the invariants.
 #[derive(Drop)]
 pub(crate) struct Machine {
     pub(crate) alloc: Global,
     program: Program,
     store: ReferrerStore,
     structure: Structure,
+    frames: Frames,
     history: History,
     cache: Cache,
 }
 
-/// Keeps the changes of an accepted command. What could be carried out again is forgotten.
-fn keep(history: &mut History, changes: Items<Change>)
-    ensures { history.new ≡ record history.old { past = take history.old.capacity (record { changes = changes; moved = moves.Stay } ∷ history.old.past); future = [] } }
+/// Keeps what an accepted command did. What could be carried out again is forgotten.
+fn keep(history: &mut History, changes: Items<Change>, moved: FrameMove)
+    ensures { history.new ≡ record history.old { past = take history.old.capacity (record { changes = changes; moved = moved } ∷ history.old.past); future = [] } }
 {
     history.forget_forward();
-    history.keep(Entry {
-        changes,
-        moved: FrameMove::Stay,
-    });
+    history.keep(Entry { changes, moved });
+}
+
+/// The frame of a call that is entered.
+fn entered(alloc: Global, call: &Call) -> Result<Frame, AllocError>
+    ensures { IfOk result (λ f. f ≡ frame_of call.now) }
+{
+    Ok(Frame {
+        call: call.try_copy(alloc)?,
+        overlay: Overlay::new(alloc),
+    })
 }
 
 /// Tells why statements are refused.
-fn tell(fault: ExecFault, out: &mut Vec<u8>) -> Result<Turn, AllocError>
-    ensures { TellsFault fault out.old.items result out.new.items }
+fn tell(
+    alloc: Global,
+    program: &Program,
+    fault: ExecFault,
+    out: &mut Vec<u8>,
+) -> Result<Turn, AllocError>
+    ensures { TellsFault program.now fault out.old.items result out.new.items }
 {
     match fault {
         ExecFault::Memory => Err(AllocError),
         ExecFault::Refused(refusal) => refuse(refusal, out),
+        ExecFault::Broken {
+            refusal,
+            contract,
+            value,
+        } => refuse_broken(alloc, program, refusal, contract, &value, out),
+    }
+}
+
+/// Tells why a call is not entered.
+fn tell_frame(
+    alloc: Global,
+    program: &Program,
+    place: Place,
+    fault: FrameFault,
+    out: &mut Vec<u8>,
+) -> Result<Turn, AllocError>
+    ensures { TellsFrameFault program.now place fault out.old.items result out.new.items }
+{
+    match fault {
+        FrameFault::Memory => Err(AllocError),
+        FrameFault::Over(_) => refuse_at(B1, place, out),
+        FrameFault::Broken(contract, value) => {
+            let refusal = Refusal { code: C1, place };
+            refuse_broken(alloc, program, refusal, contract, &value, out)
+        }
+        FrameFault::TooMany | FrameFault::Nothing => refuse_at(C4, place, out),
+    }
+}
+
+/// Why the top call is not left: for want of memory alone, since one is open.
+fn tell_none_left(fault: FrameFault) -> Result<Turn, AllocError>
+    ensures { TellsNoneLeft fault result }
+{
+    match fault {
+        FrameFault::Memory => Err(AllocError),
+        _ => Ok(Turn::Quiet),
+    }
+}
+
+/// How a call is left.
+fn turn_of_posts(outcomes: &[(ContractNo, Outcome)]) -> Turn
+    ensures { result ≡ turn_of_posts outcomes.now }
+{
+    if are_met(outcomes) {
+        Turn::Quiet
+    } else {
+        Turn::CheckFailed
     }
 }
 
@@ -126,6 +206,7 @@ impl Machine {
             program,
             store: ReferrerStore::new(alloc, layout),
             structure: Structure::new(alloc),
+            frames: Frames::new(alloc),
             history: History::new(alloc, MAX_HISTORY)?,
             cache,
         })
@@ -147,10 +228,15 @@ impl Machine {
         requires text { All (IsWithin (length parsed.now.text)) parsed.now.tokens }
         requires kept { IsKept self.now }
         ensures fit { IfOk result (MayRun self.now.program.model) }
-        ensures checked { Tells (command_in self.now.program (known self.now.store.state) None parsed.now.text parsed.now.tokens (root_tree parsed.now.tree)) result }
+        ensures checked { Tells (checked (machine_of self.now) parsed.now.text parsed.now.tokens (root_tree parsed.now.tree)) result }
     {
         self.store.state_is_valid();
-        let scope = StoreScope { store: &self.store };
+        self.program.model().has_numbers_in_range();
+        let bindings = top_bindings(self.alloc, &self.program, &self.frames)?;
+        let scope = StoreScope {
+            store: &self.store,
+            bindings,
+        };
         check_command(self.alloc, &self.program, &scope, parsed)
     }
 
@@ -163,11 +249,12 @@ impl Machine {
     ) -> Result<Outcome, AllocError>
         requires tree { IsSound expr.now }
         requires kept { IsKept self.now }
-        ensures value { IfOk result (λ outcome. outcome ≡ told (eval (scene (machine_of self.now)) (map (shell_value self.now.store.state) shell.now) expr.now).0) }
-        ensures units { OnOk result (steps.new + (eval (scene (machine_of self.now)) (map (shell_value self.now.store.state) shell.now) expr.now).1.fuel ≡ steps.old + max_units) }
+        ensures value { IfOk result (λ outcome. outcome ≡ told (eval (scene (machine_of self.now)) (environment (machine_of self.now) shell.now) expr.now).0) }
+        ensures units { OnOk result (steps.new + (eval (scene (machine_of self.now)) (environment (machine_of self.now) shell.now) expr.now).1.fuel ≡ steps.old + max_units) }
     {
         self.program.is_checked();
-        let mut env = environment(self.alloc, &self.store, shell, Vec::new(self.alloc))?;
+        let bound = bound_values(self.alloc, &self.frames)?;
+        let mut env = environment(self.alloc, &self.store, shell, bound)?;
         let mut reads = Cells::new(self.alloc);
         evaluate_in::<L, ReferrerStore, ReferrerStore>(
             self.alloc,
@@ -219,7 +306,7 @@ impl Machine {
         ensures { Answers (execute (machine_of self.old) body.now shell) out.old.items steps.old result self.new out.new.items steps.new }
     {
         self.store.state_is_valid();
-        let bound = Vec::new(self.alloc);
+        let bound = bound_values(self.alloc, &self.frames)?;
         let done = execute(
             self.alloc,
             &self.program,
@@ -227,24 +314,173 @@ impl Machine {
             shell,
             bound,
             &mut self.store,
+            &mut self.frames,
             steps,
         );
         match done {
-            Err(fault) => tell(fault, out),
+            Err(fault) => tell(self.alloc, &self.program, fault, out),
             Ok(changes) => {
                 let model = self.program.model();
                 note_all(model, &mut self.structure, changes.as_slice())?;
-                keep(&mut self.history, changes);
+                keep(&mut self.history, changes, FrameMove::Stay);
                 Ok(Turn::Quiet)
             }
         }
+    }
+
+    /// Enters a call, and writes its preconditions.
+    fn open<L: Ledger>(
+        &mut self,
+        word: Place,
+        call: Call,
+        out: &mut Vec<u8>,
+        steps: &mut Steps<L>,
+    ) -> Result<Turn, AllocError>
+        requires call { IsCall self.old.program call }
+        requires few { length self.old.frames < max_open }
+        requires kept { IsKept self.old }
+        ensures { Answers (entered_unless (machine_of self.old) word (pre_units self.old.program (diagram (machine_of self.old)) call) call (all_true (pres self.old.program (diagram (machine_of self.old)) call)))
+            out.old.items steps.old result self.new out.new.items steps.new }
+    {
+        self.store.state_is_valid();
+        let frame = entered(self.alloc, &call)?;
+        let entering = enter(
+            self.alloc,
+            &self.program,
+            &self.store,
+            &mut self.frames,
+            call,
+            MAX_OPEN,
+            steps,
+        );
+        match entering {
+            Err(fault) => tell_frame(self.alloc, &self.program, word, fault, out),
+            Ok(numbers) => {
+                append_pres(&self.program, numbers.as_slice(), out)?;
+                let changes = Items::new(self.alloc);
+                keep(&mut self.history, changes, FrameMove::Entered(frame));
+                Ok(Turn::Quiet)
+            }
+        }
+    }
+
+    /// `openter`
+    fn enter<L: Ledger>(
+        &mut self,
+        word: Place,
+        receiver: &Expr,
+        op: OpNo,
+        args: &[Expr],
+        shell: Items<Text>,
+        out: &mut Vec<u8>,
+        steps: &mut Steps<L>,
+    ) -> Result<Turn, AllocError>
+        requires op { op < length self.old.program.model.ops }
+        requires receiver { IsSound receiver.now }
+        requires args { All IsSound args.now }
+        requires names { AreNames shell }
+        requires kept { IsKept self.old }
+        ensures { Answers (enter (machine_of self.old) word receiver.now op args.now shell) out.old.items steps.old result self.new out.new.items steps.new }
+    {
+        if self.frames.depth() == MAX_OPEN {
+            return refuse_at(C4, word, out);
+        }
+        let bound = bound_values(self.alloc, &self.frames)?;
+        let found = call_to_enter(
+            self.alloc,
+            &self.program,
+            word,
+            receiver,
+            op,
+            args,
+            shell,
+            bound,
+            &mut self.store,
+            steps,
+        );
+        match found {
+            Err(fault) => tell(self.alloc, &self.program, fault, out),
+            Ok(call) => self.open(word, call, out, steps),
+        }
+    }
+
+    /// Leaves the top call, and writes its postconditions.
+    fn close<L: Ledger>(
+        &mut self,
+        given: &Value,
+        out: &mut Vec<u8>,
+        steps: &mut Steps<L>,
+    ) -> Result<Turn, AllocError>
+        requires given { IsWellMade given.now }
+        requires kept { IsKept self.old }
+        ensures { Answers (left_by (machine_of self.old) 0 given.now (open_calls (machine_of self.old))) out.old.items steps.old result self.new out.new.items steps.new }
+    {
+        if self.has_no_call() {
+            return Ok(Turn::Quiet);
+        }
+        self.store.state_is_valid();
+        let left = leave(
+            self.alloc,
+            &self.program,
+            &self.store,
+            &mut self.frames,
+            given,
+            steps,
+        );
+        match left {
+            Err(fault) => tell_none_left(fault),
+            Ok((frame, outcomes)) => {
+                append_posts(&self.program, outcomes.as_slice(), out)?;
+                let changes = Items::new(self.alloc);
+                keep(&mut self.history, changes, FrameMove::Left(frame));
+                Ok(turn_of_posts(outcomes.as_slice()))
+            }
+        }
+    }
+
+    /// `opexit`
+    fn exit<L: Ledger>(
+        &mut self,
+        word: Place,
+        e: Option<&Expr>,
+        shell: Items<Text>,
+        out: &mut Vec<u8>,
+        steps: &mut Steps<L>,
+    ) -> Result<Turn, AllocError>
+        requires tree { ForSome (option_copied e) IsSound }
+        requires names { AreNames shell }
+        requires kept { IsKept self.old }
+        ensures { Answers (exit (machine_of self.old) word (option_copied e.entry) shell) out.old.items steps.old result self.new out.new.items steps.new }
+    {
+        let bound = bound_values(self.alloc, &self.frames)?;
+        let given = value_to_give(
+            self.alloc,
+            &self.program,
+            word,
+            e,
+            shell,
+            bound,
+            &mut self.store,
+            steps,
+        );
+        match given {
+            Err(fault) => tell(self.alloc, &self.program, fault, out),
+            Ok(given) => self.close(&given, out, steps),
+        }
+    }
+
+    /// Whether no call is open.
+    pub(crate) fn has_no_call(&self) -> bool
+        ensures { result ≡ nat_eq (length (open_calls (machine_of self.now))) 0 }
+    {
+        self.frames.depth() == 0
     }
 
     /// Appends what `info` tells of a topic.
     fn append_info(&self, topic: Topic, out: &mut Vec<u8>) -> Result<(), AllocError>
         requires topic { IsTopicOf self.now.program.model topic }
         requires kept { IsKept self.now }
-        ensures { OnOk result (out.new.items ≡ out.old.items ++ info_text self.now.program self.now.store.state topic) }
+        ensures { OnOk result (out.new.items ≡ out.old.items ++ info_text self.now.program self.now.store.state (open_calls (machine_of self.now)) topic) }
     {
         let model = self.program.model();
         match topic {
@@ -252,7 +488,8 @@ impl Machine {
             Topic::Model => append_model(&self.program, out),
             Topic::State => append_state(self.alloc, model, &self.store, out),
             Topic::Vars => append_variables(self.alloc, model, &self.store, out),
-            Topic::Opstack | Topic::Script | Topic::Use => Ok(()),
+            Topic::Opstack => append_calls(self.alloc, model, &self.store, &self.frames, out),
+            Topic::Script | Topic::Use => Ok(()),
         }
     }
 
@@ -286,7 +523,7 @@ impl Machine {
     fn info(&self, topic: Topic, out: &mut Vec<u8>) -> Result<Turn, AllocError>
         requires topic { IsTopicOf self.now.program.model topic }
         requires kept { IsKept self.now }
-        ensures { Answers (accepted (machine_of self.now) (info_text self.now.program self.now.store.state topic) 0) out.old.items 0 result self.now out.new.items 0 }
+        ensures { Answers (accepted (machine_of self.now) (info_text self.now.program self.now.store.state (open_calls (machine_of self.now)) topic) 0) out.old.items 0 result self.now out.new.items 0 }
     {
         self.append_info(topic, out)?;
         Ok(Turn::Quiet)
@@ -314,16 +551,18 @@ impl Machine {
     /// `undo`
     fn undo(&mut self, place: Place, out: &mut Vec<u8>) -> Result<Turn, AllocError>
         requires { IsKept self.old }
-        ensures { Answers (undone (machine_of self.old) place (machine_of self.old).past) out.old.items 0 result self.new out.new.items 0 }
+        ensures { Answers (undone (machine_of self.old) place (machine_of self.old).timeline.past) out.old.items 0 result self.new out.new.items 0 }
     {
+        self.program.model().has_numbers_in_range();
         self.store.state_is_valid();
         match self.history.step_back() {
             None => refuse_at(U1, place, out),
             Some(entry) => {
                 let Entry { changes, moved } = entry;
-                let again = take_back(self.alloc, &mut self.store, changes)?;
+                let again = take_back(self.alloc, &mut self.store, &mut self.frames, changes)?;
                 let model = self.program.model();
                 note_all_back(model, &mut self.structure, again.as_slice())?;
+                let moved = moved.take_back(self.alloc, &mut self.frames)?;
                 self.history.put_forward(Entry {
                     changes: again,
                     moved,
@@ -336,16 +575,23 @@ impl Machine {
     /// `redo`
     fn redo(&mut self, place: Place, out: &mut Vec<u8>) -> Result<Turn, AllocError>
         requires { IsKept self.old }
-        ensures { Answers (redone (machine_of self.old) place (machine_of self.old).future) out.old.items 0 result self.new out.new.items 0 }
+        ensures { Answers (redone (machine_of self.old) place (machine_of self.old).timeline.future) out.old.items 0 result self.new out.new.items 0 }
     {
+        self.program.model().has_numbers_in_range();
         self.store.state_is_valid();
         match self.history.step_forward() {
             None => refuse_at(U2, place, out),
             Some(entry) => {
                 let Entry { changes, moved } = entry;
-                let again = carry_out_again(self.alloc, &mut self.store, changes)?;
+                let again = carry_out_again(
+                    self.alloc,
+                    &mut self.store,
+                    &mut self.frames,
+                    changes,
+                )?;
                 let model = self.program.model();
                 note_all(model, &mut self.structure, again.as_slice())?;
+                let moved = moved.carry_out(self.alloc, &mut self.frames)?;
                 self.history.put_back(Entry {
                     changes: again,
                     moved,
@@ -365,6 +611,7 @@ impl Machine {
         let gone = clear(self.alloc, &mut self.store)?;
         let model = self.program.model();
         note_all(model, &mut self.structure, gone.as_slice())?;
+        self.frames = Frames::new(self.alloc);
         self.history.clear();
         Ok(Turn::Quiet)
     }
@@ -373,13 +620,14 @@ impl Machine {
     fn answer_built<L: Ledger>(
         &mut self,
         at: Start,
+        word: Place,
         command: Checked,
         out: &mut Vec<u8>,
         steps: &mut Steps<L>,
     ) -> Result<Turn, AllocError>
         requires fit { MayRun self.old.program.model command }
         requires kept { IsKept self.old }
-        ensures { Answers (carried_out (machine_of self.old) at command) out.old.items steps.old result self.new out.new.items steps.new }
+        ensures { Answers (carried_out (machine_of self.old) at word command) out.old.items steps.old result self.new out.new.items steps.new }
     {
         match command {
             Checked::Query {
@@ -390,6 +638,13 @@ impl Machine {
             Checked::Statements { body, shell } => {
                 self.carry_out(body.as_slice(), shell, out, steps)
             }
+            Checked::Enter {
+                receiver,
+                op,
+                args,
+                shell,
+            } => self.enter(word, &receiver, op, args.as_slice(), shell, out, steps),
+            Checked::Exit { value, shell } => { self.exit(word, value.as_ref(), shell, out, steps) }
             Checked::Check { detail } => self.judge(detail, out, steps),
             Checked::Info(topic) => self.info(topic, out),
             Checked::Undo => self.undo(at.first, out),
@@ -404,17 +659,18 @@ impl Machine {
     pub(crate) fn answer<L: Ledger>(
         &mut self,
         at: Start,
+        word: Place,
         command: Checked,
         out: &mut Vec<u8>,
         steps: &mut Steps<L>,
     ) -> Result<Turn, AllocError>
         requires fit { MayRun self.old.program.model command }
         requires kept { IsKept self.old }
-        ensures { Answers (answered (machine_of self.old) at (Ok command)) out.old.items steps.old result self.new out.new.items steps.new }
+        ensures { Answers (answered (machine_of self.old) at word (Ok command)) out.old.items steps.old result self.new out.new.items steps.new }
     {
         if is_unbuilt(&command) {
             return refuse_at(Code::S0, at.first, out);
         }
-        self.answer_built(at, command, out, steps)
+        self.answer_built(at, word, command, out, steps)
     }
 }

@@ -1,9 +1,10 @@
-ghost use Rattle.std.specs.Prelude.{◌≡◌, ◌++◌, ◌≤◌, ◌^◌, IfOk, OnOk, length};
+ghost use Rattle.std.specs.Prelude.{◌≡◌, ◌++◌, ◌<◌, ◌≤◌, ◌^◌, IfOk, OnOk, length};
 ghost use Rattle.object_state.specs.State.{object, stamp_of};
 ghost use Rattle.use_session.specs.Resetting.{cleared, removal_if, removals, reset_changes, unbindings, unlinking_if, unlinkings, unlinkings_below, unlinkings_of};
 
 use crate::moments::carry_out_again;
 use class_model::AssocNo;
+use entry_states::Frames;
 use object_referrers::ReferrerStore;
 use object_state::{Change, LinkChange, ObjectChange, StateReader};
 use ocl_values::{ObjNo, Text};
@@ -150,11 +151,12 @@ fn reset_changes(alloc: Global, store: &ReferrerStore) -> Result<Items<Change>, 
 
 /// Takes all links, variables and objects away, and gives the changes. The counters stay.
 pub(crate) fn clear(alloc: Global, store: &mut ReferrerStore) -> Result<Items<Change>, AllocError>
-    requires { length store.old.layout.assocs ≤ 2 ^ 32 }
+    requires { length store.old.layout.assocs < 2 ^ 32 }
     ensures state { OnOk result (store.new ≡ record store.old { state = cleared store.old.state }) }
     ensures changes { IfOk result (λ changes. changes ≡ reset_changes store.old.state) }
 {
     store.state_is_valid();
     let changes = reset_changes(alloc, store)?;
-    carry_out_again(alloc, store, changes)
+    let mut frames = Frames::new(alloc);
+    carry_out_again(alloc, store, &mut frames, changes)
 }

@@ -5,13 +5,14 @@ ghost use Rattle.use_text.specs.Tokens.{IsWithin};
 ghost use Rattle.grammar_core.specs.Arena.{root_tree};
 ghost use Rattle.use_syntax.specs.Language.{language};
 ghost use Rattle.use_syntax.specs.Reading.{parsed};
-ghost use Rattle.use_session.specs.Answering.{Answers};
+ghost use Rattle.use_session.specs.Answering.{Answers, machine_in};
 ghost use Rattle.use_session.specs.Commands.{reading_of};
 ghost use Rattle.use_session.specs.Kept.{IsKept, machine_of};
 ghost use Rattle.use_session.specs.Machine.{answered_reading, counts, start, step};
 
 use crate::Machine;
-use crate::answers::refuse;
+use crate::answers::{refuse, refuse_at};
+use crate::exits::{C3, is_exit, word_place};
 use crate::file_word::is_open;
 use crate::reading::{Reading, read_cut};
 use crate::starts::start_of;
@@ -34,7 +35,8 @@ pub enum Turn {
     Quiet,
     /// It was refused, by this rule.
     Refused(Code),
-    /// It was a check that wrote a broken multiplicity, or a verdict that is not OK.
+    /// It was a check that wrote a broken multiplicity, or a verdict that is not OK, or a call was left
+    /// with a postcondition that is not true.
     CheckFailed,
     /// It asks for the commands of a file of this name, or for a refusal at this place.
     Fetch { name: Text, place: Place },
@@ -75,12 +77,17 @@ fn answer_parsed<L: Ledger>(
     ensures { Answers (answered_reading (machine_of machine.old) line read.text (parsed read.tokens (root_tree read.tree))) out.old.items steps.old
         result machine.new out.new.items steps.new }
 {
-    let at = start_of(line, read.tokens.as_slice());
+    let tokens = read.tokens.as_slice();
+    let at = start_of(line, tokens);
+    let word = word_place(at, tokens);
+    if is_exit(tokens) && machine.has_no_call() {
+        return refuse_at(C3, word, out);
+    }
     let checked = machine.check(&read);
     let Parsed { tree, tokens, .. } = read;
     reader.take_back(TokenTree { tree, tokens });
     match checked {
-        Ok(command) => machine.answer(at, command, out, steps),
+        Ok(command) => machine.answer(at, word, command, out, steps),
         Err(TypeFault::Refused(refusal)) => refuse(refusal, out),
         Err(TypeFault::Memory) => Err(AllocError),
     }
@@ -138,14 +145,14 @@ impl Model for Session {
     ghost use Rattle.ocl_core.specs.contracts.expression.Expr as expressions;
     ghost use Rattle.ocl_core.specs.contracts.statement.Stmt as statements;
     ghost use Rattle.use_syntax.specs.Language.{language};
-    ghost use Rattle.use_session.specs.Answering.{Standing};
-    ghost use Rattle.use_session.specs.Kept.{IsKept, machine_of};
+    ghost use Rattle.use_session.specs.Answering.{Held};
+    ghost use Rattle.use_session.specs.Kept.{IsKept};
 
-    ghost Value = { Standing };
+    ghost Value = { Held };
 
     ghost coded = { Prim.hlevel (codes, types.the_row.coded, values.the_row.coded, expressions.the_row.coded, statements.the_row.coded) };
 
-    ghost view = { λ s. record { over = s.over; machine = machine_of s.machine } };
+    ghost view = { λ s. record { over = s.over; program = s.machine.program; store = s.machine.store; frames = s.machine.frames; history = s.machine.history } };
 
     ghost invariant = { λ s. (s.grammar ≡ language) × (s.over ≡ false → IsKept s.machine) };
 }
@@ -156,7 +163,7 @@ impl Session {
     pub fn new(alloc: Global, grammar: Grammar, program: Program) -> Result<Session, AllocError>
         requires { grammar ≡ language }
         ensures over { IfOk result (λ s. s.over ≡ false) }
-        ensures machine { IfOk result (λ s. s.machine ≡ start program) }
+        ensures machine { IfOk result (λ s. machine_in s ≡ start program) }
     {
         Ok(Session {
             grammar,
@@ -168,7 +175,7 @@ impl Session {
 
     /// How many objects are live, and how many links there are.
     pub fn counts(&self) -> (u32, u32)
-        ensures { result ≡ counts self.now.machine }
+        ensures { result ≡ counts (machine_in self.now) }
     {
         self.machine.counts()
     }
@@ -182,10 +189,10 @@ impl Session {
         steps: &mut Steps<L>,
     ) -> Result<Turn, SessionFault>
         requires { IsCommand max_lines cut.now }
-        ensures bytes { OnOk result (out.new.items ≡ out.old.items ++ (step self.old.machine cut.now).bytes) }
-        ensures turn { IfOk result (λ turn. turn ≡ (step self.old.machine cut.now).turn) }
-        ensures machine { OnOk result (self.new.machine ≡ (step self.old.machine cut.now).machine) }
-        ensures units { OnOk result (steps.new ≡ steps.old + (step self.old.machine cut.now).units) }
+        ensures bytes { OnOk result (out.new.items ≡ out.old.items ++ (step (machine_in self.old) cut.now).bytes) }
+        ensures turn { IfOk result (λ turn. turn ≡ (step (machine_in self.old) cut.now).turn) }
+        ensures machine { OnOk result (machine_in self.new ≡ (step (machine_in self.old) cut.now).machine) }
+        ensures units { OnOk result (steps.new ≡ steps.old + (step (machine_in self.old) cut.now).units) }
 
         // Want of memory ends the session, and only an ended one is over.
         ensures over { IsErrOf result SessionFault.Over ↔ IsTrue self.old.over }

@@ -8,10 +8,11 @@ use object_state::StateReader;
 use ocl_values::ObjNo;
 use soil_check::{Bindings, Scope, ShellName};
 
-/// The names of a store's variables and objects, where no operation is open.
+/// The names of a store's variables and objects, and what the top call binds.
 #[derive(Drop)]
 pub(crate) struct StoreScope<'a> {
     pub(crate) store: &'a ReferrerStore,
+    pub(crate) bindings: Option<Bindings>,
 }
 
 /// What the name of an object stands for.
@@ -25,12 +26,11 @@ fn known_object(store: &ReferrerStore, number: ObjNo) -> Option<ShellName<'_>>
 }
 
 impl Scope for StoreScope<'_> {
-    ghost use Rattle.std.specs.Prelude.{None};
     ghost use Rattle.use_session.specs.Shell.{known};
 
     ghost known = { λ s name. known s.store.now.state name };
 
-    ghost bound = { λ s. None };
+    ghost bound = { λ s. s.bindings };
 
     fn shell(&self, name: &str) -> Option<ShellName<'_>> {
         match self.store.variable(name) {
@@ -43,6 +43,6 @@ impl Scope for StoreScope<'_> {
     }
 
     fn frame(&self) -> Option<&Bindings> {
-        None
+        self.bindings.as_ref()
     }
 }

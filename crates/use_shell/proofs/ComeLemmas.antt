@@ -1,5 +1,6 @@
 -- How far a player has come.
 use Rattle.std.proofs.Common.{◌≡◌, ℕ, ◌+◌, Bool, true, false, ◌||◌, List, [], ◌++◌, Option, Result, Ok, Err, sym, ap, ◌∙◌, subst, append_assoc, append-nil, arith, inl, inr, ⊎_elim}
+use Rattle.use_session.specs.Answering.{machine_in}
 use Rattle.use_session.specs.Machine.{Machine, Step}
 use Rattle.use_shell.specs.declared.player.Player.{Player}
 use Rattle.use_shell.specs.declared.stop.Stop.{Stop}
@@ -30,7 +31,7 @@ puts_front a b d x y xs ys h k =
     let same : h.put ++ (y ++ ys) ≡ x ++ (xs ++ ys) = sym (append_assoc h.put y ys) ∙ ap (λ l. l ++ ys) (sym h.whole) ∙ append_assoc x xs ys in
     subst (AppendsFront a d) same (front_after a b d h.put (y ++ ys) h.written k)
 
-pub come_nothing : (m : Machine) (p : Player) (a : Option (List ℕ)) (u v : ℕ) → p.session.machine ≡ m → v ≡ u → HasCome (nothing m) p p a a u v
+pub come_nothing : (m : Machine) (p : Player) (a : Option (List ℕ)) (u v : ℕ) → (machine_in p.session) ≡ m → v ≡ u → HasCome (nothing m) p p a a u v
 come_nothing m p a u v same counted = record {
   machine = same;
   failed = sym (or_false p.failed);
@@ -63,7 +64,7 @@ plays_then p q was mid now a b d u v w (Err stop) h k = stopped_then p q was mid
 pub come_on : (p : Played) (was mid now : Player) (a b d : Option (List ℕ)) (u v w : ℕ) → HasCome p was mid a b u v
     → Puts b d mid.waiting.items now.waiting.items [] → now.session ≡ mid.session → now.failed ≡ mid.failed → w ≡ v → HasCome p was now a d u w
 come_on p was mid now a b d u v w h k session failed counted = record {
-  machine = ap (λ s. s.machine) session ∙ h.machine;
+  machine = ap machine_in session ∙ h.machine;
   failed = failed ∙ h.failed;
   puts = subst (Puts a d was.waiting.items now.waiting.items) (append-nil p.bytes)
       (puts_then a b d was.waiting.items mid.waiting.items now.waiting.items p.bytes [] h.puts k);
@@ -96,7 +97,7 @@ pub stopped_wanting : (p : Played) (x : List ℕ) (a : Option (List ℕ)) (u w :
 stopped_wanting p x a u w stop h = record { front = front_of_none a (x ++ p.bytes); units = inl h }
 
 -- a step whose answer waits
-pub come_by_step : (e : List ℕ) (s : Step) (over : Bool) (was now : Player) (a : Option (List ℕ)) (u v : ℕ) → now.session.machine ≡ s.machine
+pub come_by_step : (e : List ℕ) (s : Step) (over : Bool) (was now : Player) (a : Option (List ℕ)) (u v : ℕ) → (machine_in now.session) ≡ s.machine
     → now.failed ≡ was.failed → now.waiting.items ≡ was.waiting.items ++ (e ++ s.bytes) → v ≡ u + s.units
     → HasCome (behind e (stepped s over false)) was now a a u v
 come_by_step e s over was now a u v machine failed waiting counted = record {
@@ -107,7 +108,7 @@ come_by_step e s over was now a u v machine failed waiting counted = record {
 }
 
 -- a refused one
-pub come_by_refusal : (p : Played) (was now : Player) (a : Option (List ℕ)) (u v : ℕ) → p.failed ≡ true → now.session.machine ≡ p.machine
+pub come_by_refusal : (p : Played) (was now : Player) (a : Option (List ℕ)) (u v : ℕ) → p.failed ≡ true → (machine_in now.session) ≡ p.machine
     → now.failed ≡ true → now.waiting.items ≡ was.waiting.items ++ p.bytes → v ≡ u + p.units → HasCome p was now a a u v
 come_by_refusal p was now a u v fails machine failed waiting counted = record {
   machine = machine;

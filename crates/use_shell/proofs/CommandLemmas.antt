@@ -1,8 +1,8 @@
 -- What commands lead to, by how many files may still be opened.
-use Rattle.std.proofs.Common.{◌≡◌, ℕ, ◌+◌, ◌-◌, ◌≤◌, zero, suc, Bool, false, nat_lt, ◌||◌, List, length, Option, Some, None, refl, sym, ap, ◌∙◌, append_assoc, arith, if◌then◌else◌}
+use Rattle.std.proofs.Common.{◌≡◌, ℕ, ◌+◌, ◌-◌, ◌<◌, ◌≤◌, zero, suc, Bool, true, false, nat_lt, ◌||◌, List, length, Option, Some, None, refl, sym, ap, subst, ◌∙◌, append_assoc, arith, if◌then◌else◌}
 use Rattle.std.specs.FinMap.{get}
 use Rattle.std.proofs.lemmas.Bool.Decides.{nat_tests}
-use Rattle.use_io.specs.Shelves.{Files, HasFile, KeepsFiles}
+use Rattle.use_io.specs.Shelves.{Files, HasFile, HasLonger, KeepsFiles, LacksFile}
 use Rattle.use_text.specs.declared.cut.Cut.{Cut}
 use Rattle.use_text.specs.declared.place.Place.{Place}
 use Rattle.use_text.specs.Cuts.{cuts}
@@ -49,8 +49,21 @@ file_within c m place bytes few = ap (λ t. if t then unopened 2 m place else pl
     within : nat_lt max_file (length bytes) ≡ false
     within = grind (arith, nat_tests)
 
+pub file_beyond : (c : Machine → Cut → Played) (m : Machine) (place : Place) (bytes : List ℕ) → max_file < length bytes
+    → of_file c m place (Some bytes) ≡ unopened 2 m place
+file_beyond c m place bytes many = ap (λ t. if t then unopened 2 m place else play c m (cuts bytes)) beyond
+  where
+    beyond : nat_lt max_file (length bytes) ≡ true
+    beyond = grind (arith, nat_tests)
+
 pub some_same : (a b : Files) → Some a ≡ Some b → a ≡ b
 some_same a b is = cc
+
+pub lacks_of : (a : Option Files) (held : Files) (name : List ℕ) → a ≡ Some held → LacksFile a name → get held name ≡ None
+lacks_of a held name is h = subst (λ (o : Option Files). LacksFile o name) is h
+
+pub longer_of : (a : Option Files) (held : Files) (name : List ℕ) (limit : ℕ) → a ≡ Some held → HasLonger a name limit → HasLonger (Some held) name limit
+longer_of a held name limit is h = subst (λ (o : Option Files). HasLonger o name limit) is h
 
 -- the shelf tells the same files
 pub still : (a b : Option Files) (held : Files) → KeepsFiles a b → a ≡ Some held → b ≡ Some held

@@ -9,6 +9,7 @@ use Rattle.use_text.specs.declared.cut.Cut.{Cut}
 use Rattle.use_text.specs.Cuts.{StaysEnded, ended, cuts}
 use Rattle.use_text.specs.Keeping.{Cutting, StandsFor}
 use Rattle.ocl_core.specs.declared.program.ProgramParts.{ProgramParts}
+use Rattle.use_session.specs.Answering.{machine_in}
 use Rattle.use_session.specs.Machine.{Machine, start}
 use Rattle.use_shell.specs.declared.player.Player.{Player}
 use Rattle.use_shell.specs.declared.status.Status.{Status}
@@ -53,7 +54,7 @@ module _ (files : Option Files) (p : ProgramParts) (echo strict : Bool) where
   abbrev s : Files → Setting
   s held = given p echo strict held
 
-  pub started : (was : Player) (cutter : Cutting) (left old : Option (List ℕ)) (u : ℕ) → StandsFor cutter [] → was.session.machine ≡ start p
+  pub started : (was : Player) (cutter : Cutting) (left old : Option (List ℕ)) (u : ℕ) → StandsFor cutter [] → (machine_in was.session) ≡ start p
       → IsStreaming files c (start p) 0 was was cutter left left old old u u
   started was cutter left old u stands machine = record {
     taken = [];
@@ -93,7 +94,7 @@ module _ (files : Option Files) (p : ProgramParts) (echo strict : Bool) where
 
         pub whole : (next : Player) (w : ℕ) (status : Status) → status ≡ read_status strict next.failed → next.waiting.items ≡ []
             → ForSome files (λ held. (bytes : List ℕ) (more : List Cut) → StandsFor cutter bytes → cuts bytes ≡ ended bytes ++ more
-            → HasCome (play (c held) player.session.machine more) player next a b v w) → Streams files s strict limit left now old b u w (Ok status)
+            → HasCome (play (c held) (machine_in player.session) more) player next a b v w) → Streams files s strict limit left now old b u w (Ok status)
         whole next w status is empty last = inl (
           next.failed,
           is,
@@ -121,7 +122,7 @@ module _ (files : Option Files) (p : ProgramParts) (echo strict : Bool) where
 
         pub halted_at_end : (w : ℕ) (stop : Stop)
             → ForSome files (λ held. (bytes : List ℕ) (more : List Cut) → StandsFor cutter bytes → cuts bytes ≡ ended bytes ++ more
-            → IsStopped (play (c held) player.session.machine more) player.waiting.items a b v w stop) → IsHalted files s limit left now old b u w stop
+            → IsStopped (play (c held) (machine_in player.session) more) player.waiting.items a b v w stop) → IsHalted files s limit left now old b u w stop
         halted_at_end w stop last = record {
           taken = at.taken;
           from = whole_from;
@@ -161,7 +162,7 @@ module _ (files : Option Files) (p : ProgramParts) (echo strict : Bool) where
         -- what playing it gave
         abbrev PlaysHere : Player → ℕ → Result Bool Stop → Type 0
         PlaysHere next w r = ForSome files (λ held. (bytes : List ℕ) (more : List Cut) → StandsFor cutter bytes → ended (bytes ++ piece) ≡ ended bytes ++ more
-            → Plays (play (c held) player.session.machine more) player next a b v w r)
+            → Plays (play (c held) (machine_in player.session) more) player next a b v w r)
 
         all_plays : (next : Player) (w : ℕ) (r : Result Bool Stop) → PlaysHere next w r
             → ForSome files (λ held. Plays (play_from (s held) (ended (at.taken ++ piece))) was next old b u w r)
@@ -223,7 +224,7 @@ module _ (files : Option Files) (p : ProgramParts) (echo strict : Bool) where
         -- what stopped the run came while it was played
         pub halted_in : (w : ℕ) (stop : Stop)
             → ForSome files (λ held. (bytes : List ℕ) (more : List Cut) → StandsFor cutter bytes → ended (bytes ++ piece) ≡ ended bytes ++ more
-            → IsStopped (play (c held) player.session.machine more) player.waiting.items a b v w stop) → IsHalted files s limit left now old b u w stop
+            → IsStopped (play (c held) (machine_in player.session) more) player.waiting.items a b v w stop) → IsHalted files s limit left now old b u w stop
         halted_in w stop on = record {
           taken = at.taken ++ (piece ++ rest_of_piece);
           from = all_from;

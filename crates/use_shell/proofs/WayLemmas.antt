@@ -7,6 +7,7 @@ use Rattle.use_text.specs.declared.cut.Cut.{Cut}
 use Rattle.use_text.specs.declared.place.Place.{Place}
 use Rattle.use_text.specs.Cuts.{StaysEnded, cuts, ended}
 use Rattle.use_text.specs.Keeping.{Cutting, StandsFor}
+use Rattle.use_session.specs.Answering.{machine_in}
 use Rattle.use_session.specs.declared.session.Turn.TheVariants.{CheckFailed, Fetch, Quiet, Quit, Refused}
 use Rattle.use_session.specs.Machine.{Machine, step}
 use Rattle.use_text.specs.declared.code.Code.{Code}
@@ -28,7 +29,7 @@ plays_by p q was now a b u v r is h = subst (λ (o : Played). Plays o was now a 
 
 -- a step that is not followed by anything
 module _ (n : ℕ) (files : Files) (echo : Bool) (m : Machine) (cut : Cut) (was now : Player) (a : Option (List ℕ)) (u v : ℕ)
-    (machine : now.session.machine ≡ (step m cut).machine) (waiting : now.waiting.items ≡ was.waiting.items ++ (echoed echo cut ++ (step m cut).bytes))
+    (machine : (machine_in now.session) ≡ (step m cut).machine) (waiting : now.waiting.items ≡ was.waiting.items ++ (echoed echo cut ++ (step m cut).bytes))
     (counted : v ≡ u + (step m cut).units) where
   pub quiet_plays : (step m cut).turn ≡ Quiet → now.failed ≡ was.failed → Plays (commands_in n files echo m cut) was now a a u v (Ok false)
   quiet_plays turn failed = plays_by (commands_in n files echo m cut) (behind (echoed echo cut) (stepped (step m cut) false false)) was now a a u v (Ok false)
@@ -52,9 +53,9 @@ module _ (n : ℕ) (files : Files) (echo : Bool) (m : Machine) (cut : Cut) (was 
 
 -- a step that opens a file
 pub fetch_plays : (n : ℕ) (files : Files) (echo : Bool) (m : Machine) (cut : Cut) (name same : List ℕ) (place : Place) (was mid now : Player)
-    (a b : Option (List ℕ)) (u v w : ℕ) (r : Result Bool Stop) → mid.session.machine ≡ (step m cut).machine
+    (a b : Option (List ℕ)) (u v w : ℕ) (r : Result Bool Stop) → (machine_in mid.session) ≡ (step m cut).machine
     → mid.waiting.items ≡ was.waiting.items ++ (echoed echo cut ++ (step m cut).bytes) → v ≡ u + (step m cut).units → mid.failed ≡ was.failed
-    → (step m cut).turn ≡ Fetch name place → same ≡ name → Plays (opens_in n files echo mid.session.machine same place) mid now a b v w r
+    → (step m cut).turn ≡ Fetch name place → same ≡ name → Plays (opens_in n files echo (machine_in mid.session) same place) mid now a b v w r
     → Plays (commands_in n files echo m cut) was now a b u w r
 fetch_plays n files echo m cut name same place was mid now a b u v w r machine waiting counted failed turn is h =
     let first = behind (echoed echo cut) (stepped (step m cut) false false) in
@@ -68,11 +69,11 @@ fetch_plays n files echo m cut name same place was mid now a b u v w r machine w
 
 -- a file that is not opened
 pub unopened_plays : (number : ℕ) (m : Machine) (place : Place) (was now : Player) (a : Option (List ℕ)) (u v : ℕ) (r : Result Bool Stop)
-    → was.session.machine ≡ m → v ≡ u → now.session ≡ was.session → IfOk r (λ over. over ≡ false) → OnOk r (now.failed ≡ true)
+    → (machine_in was.session) ≡ m → v ≡ u → now.session ≡ was.session → IfOk r (λ over. over ≡ false) → OnOk r (now.failed ≡ true)
     → OnOk r (now.waiting.items ≡ was.waiting.items ++ (unopened number m place).bytes) → IsOkUnless r Memory
     → Plays (unopened number m place) was now a a u v r
 unopened_plays number m place was now a u v (Ok over) machine counted session goes failed waiting memory =
-    (come_by_refusal (unopened number m place) was now a u v refl (ap (λ s. s.machine) session ∙ machine) failed waiting (omega (arith, counted)), goes)
+    (come_by_refusal (unopened number m place) was now a u v refl (ap machine_in session ∙ machine) failed waiting (omega (arith, counted)), goes)
 unopened_plays number m place was now a u v (Err stop) machine counted session goes failed waiting memory =
     stopped_wanting (unopened number m place) was.waiting.items a u v stop memory
 
@@ -81,7 +82,7 @@ pub plays_behind : (p : Played) (was mid now : Player) (a b d : Option (List ℕ
     → Puts a b was.waiting.items mid.waiting.items [] → mid.session ≡ was.session → mid.failed ≡ was.failed → v ≡ u → Plays p mid now b d v w r
     → Plays p was now a d u w r
 plays_behind p was mid now a b d u v w r puts session failed counted h =
-    let m = was.session.machine in
+    let m = (machine_in was.session) in
     let still = come_on (nothing m) was was mid a a b u u v (come_nothing m was a u u refl refl) puts session failed counted in
     plays_by p (after (nothing m) p) was now a d u w r (nothing_before m p) (plays_then (nothing m) p was mid now a b d u v w r still h)
 
@@ -89,46 +90,46 @@ plays_behind p was mid now a b d u v w r puts session failed counted h =
 pub opened_plays : (n k : ℕ) (files : Files) (echo inner : Bool) (name : List ℕ) (place : Place) (bytes held : List ℕ) (was mid now : Player)
     (a b d : Option (List ℕ)) (u v w : ℕ) (r : Result Bool Stop) → (n ≡ 0 → ⊥) → get files name ≡ Some bytes → length bytes ≤ max_file → k ≡ n - 1
     → inner ≡ echo → held ≡ bytes → Puts a b was.waiting.items mid.waiting.items [] → mid.session ≡ was.session → mid.failed ≡ was.failed → v ≡ u
-    → Plays (play (commands_in k files inner) mid.session.machine (cuts held)) mid now b d v w r
-    → Plays (opens_in n files echo was.session.machine name place) was now a d u w r
+    → Plays (play (commands_in k files inner) (machine_in mid.session) (cuts held)) mid now b d v w r
+    → Plays (opens_in n files echo (machine_in was.session) name place) was now a d u w r
 opened_plays n k files echo inner name place bytes held was mid now a b d u v w r some has few less same_echo same puts session failed counted h =
     let c = commands_in (n - 1) files echo in
-    let p = play c was.session.machine (cuts bytes) in
-    let is : play (commands_in k files inner) mid.session.machine (cuts held) ≡ p =
-    ap (λ i. play (commands_in i files inner) mid.session.machine (cuts held)) less
-    ∙ ap (λ e. play (commands_in (n - 1) files e) mid.session.machine (cuts held)) same_echo
-    ∙ ap (λ l. play c mid.session.machine (cuts l)) same
-    ∙ ap (λ s. play c s.machine (cuts bytes)) session in
-    let opens : opens_in n files echo was.session.machine name place ≡ p = opens_one n files echo was.session.machine name place (Some bytes) some has
-    ∙ file_within c was.session.machine place bytes few in
-    plays_by (opens_in n files echo was.session.machine name place) p was now a d u w r opens
+    let p = play c (machine_in was.session) (cuts bytes) in
+    let is : play (commands_in k files inner) (machine_in mid.session) (cuts held) ≡ p =
+    ap (λ i. play (commands_in i files inner) (machine_in mid.session) (cuts held)) less
+    ∙ ap (λ e. play (commands_in (n - 1) files e) (machine_in mid.session) (cuts held)) same_echo
+    ∙ ap (λ l. play c (machine_in mid.session) (cuts l)) same
+    ∙ ap (λ s. play c (machine_in s) (cuts bytes)) session in
+    let opens : opens_in n files echo (machine_in was.session) name place ≡ p = opens_one n files echo (machine_in was.session) name place (Some bytes) some has
+    ∙ file_within c (machine_in was.session) place bytes few in
+    plays_by (opens_in n files echo (machine_in was.session) name place) p was now a d u w r opens
     (plays_behind p was mid now a b d u v w r puts session failed counted (subst (λ (o : Played). Plays o mid now b d v w r) is h))
 
 module _ (c : Machine → Cut → Played) where
   -- commands that wait
-  pub on_the_way : (m : Machine) (xs : List Cut) (p : Player) (a : Option (List ℕ)) (u : ℕ) → p.session.machine ≡ m
-      → IsOnTheWay (play c m xs) (play c p.session.machine xs) p p a a u u
+  pub on_the_way : (m : Machine) (xs : List Cut) (p : Player) (a : Option (List ℕ)) (u : ℕ) → (machine_in p.session) ≡ m
+      → IsOnTheWay (play c m xs) (play c (machine_in p.session) xs) p p a a u u
   on_the_way m xs p a u same = record {
     done = nothing m;
-    whole = ap (λ k. play c k xs) (sym same) ∙ nothing_before m (play c p.session.machine xs);
+    whole = ap (λ k. play c k xs) (sym same) ∙ nothing_before m (play c (machine_in p.session) xs);
     come = come_nothing m p a u u same refl;
   }
 
   module _ (all : Played) (x : Cut) (xs waiting : List Cut) (was mid now : Player) (a b d : Option (List ℕ)) (u v w : ℕ) (is : waiting ≡ x ∷ xs)
-      (way : IsOnTheWay all (play c mid.session.machine waiting) was mid a b u v) where
+      (way : IsOnTheWay all (play c (machine_in mid.session) waiting) was mid a b u v) where
     -- the next one ended the run, or stopped it
-    pub way_over : Plays (c mid.session.machine x) mid now b d v w (Ok true) → Plays all was now a d u w (Ok true)
+    pub way_over : Plays (c (machine_in mid.session) x) mid now b d v w (Ok true) → Plays all was now a d u w (Ok true)
     way_over h =
-        let rest : play c mid.session.machine waiting ≡ c mid.session.machine x = ap (play c mid.session.machine) is
-        ∙ followed_over (c mid.session.machine x) (λ next. play c next xs) (sym h.1) in
-        plays_by all (after way.done (c mid.session.machine x)) was now a d u w (Ok true) (way.whole ∙ ap (after way.done) rest)
-        (plays_then way.done (c mid.session.machine x) was mid now a b d u v w (Ok true) way.come h)
+        let rest : play c (machine_in mid.session) waiting ≡ c (machine_in mid.session) x = ap (play c (machine_in mid.session)) is
+        ∙ followed_over (c (machine_in mid.session) x) (λ next. play c next xs) (sym h.1) in
+        plays_by all (after way.done (c (machine_in mid.session) x)) was now a d u w (Ok true) (way.whole ∙ ap (after way.done) rest)
+        (plays_then way.done (c (machine_in mid.session) x) was mid now a b d u v w (Ok true) way.come h)
 
     -- the run goes on behind it
-    pub way_on : Plays (c mid.session.machine x) mid now b d v w (Ok false) → IsOnTheWay all (play c now.session.machine xs) was now a d u w
+    pub way_on : Plays (c (machine_in mid.session) x) mid now b d v w (Ok false) → IsOnTheWay all (play c (machine_in now.session) xs) was now a d u w
     way_on h =
-        let p = c mid.session.machine x in
-        let rest : play c mid.session.machine waiting ≡ after p (play c p.machine xs) = ap (play c mid.session.machine) is
+        let p = c (machine_in mid.session) x in
+        let rest : play c (machine_in mid.session) waiting ≡ after p (play c p.machine xs) = ap (play c (machine_in mid.session)) is
         ∙ followed_on p (λ next. play c next xs) (sym h.1) in
         record {
           done = after way.done p;
@@ -137,21 +138,21 @@ module _ (c : Machine → Cut → Played) where
           come = come_then way.done p was mid now a b d u v w way.come h.0;
         }
 
-    pub way_stopped : (stop : Stop) → IsStopped (c mid.session.machine x) mid.waiting.items b d v w stop → IsStopped all was.waiting.items a d u w stop
+    pub way_stopped : (stop : Stop) → IsStopped (c (machine_in mid.session) x) mid.waiting.items b d v w stop → IsStopped all was.waiting.items a d u w stop
     way_stopped stop h =
-        let p = c mid.session.machine x in
+        let p = c (machine_in mid.session) x in
         let first : IsStopped (after way.done p) was.waiting.items a d u w stop = stopped_then way.done p was mid a b d u v w stop way.come h in
         by_over p.over refl first
       where
-        by_over : (t : Bool) → (c mid.session.machine x).over ≡ t → IsStopped (after way.done (c mid.session.machine x)) was.waiting.items a d u w stop
+        by_over : (t : Bool) → (c (machine_in mid.session) x).over ≡ t → IsStopped (after way.done (c (machine_in mid.session) x)) was.waiting.items a d u w stop
             → IsStopped all was.waiting.items a d u w stop
         by_over true over k =
             subst (λ (o : Played). IsStopped o was.waiting.items a d u w stop)
-            (sym (way.whole ∙ ap (after way.done) (ap (play c mid.session.machine) is ∙ followed_over (c mid.session.machine x) (λ next. play c next xs) over))) k
+            (sym (way.whole ∙ ap (after way.done) (ap (play c (machine_in mid.session)) is ∙ followed_over (c (machine_in mid.session) x) (λ next. play c next xs) over))) k
         by_over false over k =
-            let p = c mid.session.machine x in
+            let p = c (machine_in mid.session) x in
             let whole : all ≡ after (after way.done p) (play c p.machine xs) = way.whole
-            ∙ ap (after way.done) (ap (play c mid.session.machine) is ∙ followed_on p (λ next. play c next xs) over)
+            ∙ ap (after way.done) (ap (play c (machine_in mid.session)) is ∙ followed_on p (λ next. play c next xs) over)
             ∙ after_assoc way.done p (play c p.machine xs) in
             subst (λ (o : Played). IsStopped o was.waiting.items a d u w stop) (sym whole)
             (stopped_more (after way.done p) (play c p.machine xs) was.waiting.items a d u w stop k)
@@ -173,9 +174,9 @@ module _ (c : Machine → Cut → Played) where
 
   -- none is left
   pub way_end : (all : Played) (waiting : List Cut) (was now : Player) (a b : Option (List ℕ)) (u v : ℕ) → waiting ≡ []
-      → IsOnTheWay all (play c now.session.machine waiting) was now a b u v → Plays all was now a b u v (Ok false)
+      → IsOnTheWay all (play c (machine_in now.session) waiting) was now a b u v → Plays all was now a b u v (Ok false)
   way_end all waiting was now a b u v none way =
-      let m = now.session.machine in
+      let m = (machine_in now.session) in
       let whole : all ≡ after way.done (nothing m) = way.whole ∙ ap (λ l. after way.done (play c m l)) none in
       plays_by all (after way.done (nothing m)) was now a b u v (Ok false) whole
       (come_then way.done (nothing m) was now now a b b u v v way.come (come_nothing m now b v v refl refl), refl)
@@ -183,37 +184,37 @@ module _ (c : Machine → Cut → Played) where
   -- a part of an input that was played before a piece
   module _ (m : Machine) (bytes : List ℕ) (was mid : Player) (cutter : Cutting) (a b : Option (List ℕ)) (u v : ℕ)
       (h : HasPlayed c m bytes was mid cutter a b u v) where
-    all_of : (all more : List Cut) → all ≡ ended bytes ++ more → play c m all ≡ after (play c m (ended bytes)) (play c mid.session.machine more)
+    all_of : (all more : List Cut) → all ≡ ended bytes ++ more → play c m all ≡ after (play c m (ended bytes)) (play c (machine_in mid.session) more)
     all_of all more is = ap (play c m) is ∙ play_on c m (ended bytes) more h.goes_on
         ∙ ap (λ k. after (play c m (ended bytes)) (play c k more)) (sym h.come.machine)
 
     pub played_then : (now : Player) (d : Option (List ℕ)) (w : ℕ) (r : Result Bool Stop) (all more : List Cut) → all ≡ ended bytes ++ more
-        → Plays (play c mid.session.machine more) mid now b d v w r → Plays (play c m all) was now a d u w r
+        → Plays (play c (machine_in mid.session) more) mid now b d v w r → Plays (play c m all) was now a d u w r
     played_then now d w r all more is k =
-        plays_by (play c m all) (after (play c m (ended bytes)) (play c mid.session.machine more)) was now a d u w r (all_of all more is)
-        (plays_then (play c m (ended bytes)) (play c mid.session.machine more) was mid now a b d u v w r h.come k)
+        plays_by (play c m all) (after (play c m (ended bytes)) (play c (machine_in mid.session) more)) was now a d u w r (all_of all more is)
+        (plays_then (play c m (ended bytes)) (play c (machine_in mid.session) more) was mid now a b d u v w r h.come k)
 
     pub come_all : (now : Player) (d : Option (List ℕ)) (w : ℕ) (all more : List Cut) → all ≡ ended bytes ++ more
-        → HasCome (play c mid.session.machine more) mid now b d v w → HasCome (play c m all) was now a d u w
+        → HasCome (play c (machine_in mid.session) more) mid now b d v w → HasCome (play c m all) was now a d u w
     come_all now d w all more is k =
         subst (λ (o : Played). HasCome o was now a d u w) (sym (all_of all more is))
-        (come_then (play c m (ended bytes)) (play c mid.session.machine more) was mid now a b d u v w h.come k)
+        (come_then (play c m (ended bytes)) (play c (machine_in mid.session) more) was mid now a b d u v w h.come k)
 
     pub stopped_all : (d : Option (List ℕ)) (w : ℕ) (stop : Stop) (all more : List Cut) → all ≡ ended bytes ++ more
-        → IsStopped (play c mid.session.machine more) mid.waiting.items b d v w stop → IsStopped (play c m all) was.waiting.items a d u w stop
+        → IsStopped (play c (machine_in mid.session) more) mid.waiting.items b d v w stop → IsStopped (play c m all) was.waiting.items a d u w stop
     stopped_all d w stop all more is k =
         subst (λ (o : Played). IsStopped o was.waiting.items a d u w stop) (sym (all_of all more is))
-        (stopped_then (play c m (ended bytes)) (play c mid.session.machine more) was mid a b d u v w stop h.come k)
+        (stopped_then (play c m (ended bytes)) (play c (machine_in mid.session) more) was mid a b d u v w stop h.come k)
 
     pub played_on : (now : Player) (d : Option (List ℕ)) (w : ℕ) (piece : List ℕ) (more : List Cut) (cut : Cutting)
-        → ended (bytes ++ piece) ≡ ended bytes ++ more → StandsFor cut (bytes ++ piece) → Plays (play c mid.session.machine more) mid now b d v w (Ok false)
+        → ended (bytes ++ piece) ≡ ended bytes ++ more → StandsFor cut (bytes ++ piece) → Plays (play c (machine_in mid.session) more) mid now b d v w (Ok false)
         → HasPlayed c m (bytes ++ piece) was now cut a d u w
     played_on now d w piece more cut is stands k =
         let all = played_then now d w (Ok false) (ended (bytes ++ piece)) more is k in
         record { stands = stands; goes_on = sym all.1; come = all.0 }
 
   pub has_begun : (m : Machine) (bytes : List ℕ) (p : Player) (cutter : Cutting) (a : Option (List ℕ)) (u : ℕ) → bytes ≡ [] → StandsFor cutter []
-      → p.session.machine ≡ m → HasPlayed c m bytes p p cutter a a u u
+      → (machine_in p.session) ≡ m → HasPlayed c m bytes p p cutter a a u u
   has_begun m bytes p cutter a u none stands same =
       subst (λ l. HasPlayed c m l p p cutter a a u u) (sym none)
       (record { stands = stands; goes_on = refl; come = come_nothing m p a u u same refl })
@@ -238,7 +239,7 @@ module _ (c : Machine → Cut → Played) where
       → Plays (c m x) was now a b u v r → Plays (play c m more) was now a b u v r
   one_plays m x more was now a b u v r is h = plays_by (play c m more) (c m x) was now a b u v r (ap (play c m) is ∙ play_one c m x) h
 
-  pub none_plays : (m : Machine) (more : List Cut) (p : Player) (a : Option (List ℕ)) (u : ℕ) → more ≡ [] → p.session.machine ≡ m
+  pub none_plays : (m : Machine) (more : List Cut) (p : Player) (a : Option (List ℕ)) (u : ℕ) → more ≡ [] → (machine_in p.session) ≡ m
       → Plays (play c m more) p p a a u u (Ok false)
   none_plays m more p a u is same = plays_by (play c m more) (nothing m) p p a a u u (Ok false) (ap (play c m) is)
       (come_nothing m p a u u same refl, refl)
@@ -285,14 +286,14 @@ module _ (c : Machine → Cut → Played) (stays : StaysEnded) (m : Machine) (by
       (all.0, ap cuts (sym whole) ∙ all.1)
 
   pub file_stopped : (d : Option (List ℕ)) (w : ℕ) (stop : Stop)
-      → IsStopped (play c mid.session.machine file_here.0) mid.waiting.items b d v w stop → IsStopped (play c m (cuts bytes)) was.waiting.items a d u w stop
+      → IsStopped (play c (machine_in mid.session) file_here.0) mid.waiting.items b d v w stop → IsStopped (play c m (cuts bytes)) was.waiting.items a d u w stop
   file_stopped d w stop h =
       let front : IsStopped (play c m (ended (take at bytes ++ file_piece))) was.waiting.items a d u w stop = stopped_all c m (take at bytes) was mid cutter a b
       u v so_far d w stop (ended (take at bytes ++ file_piece)) file_here.0 file_here.1 h in
       subst (λ l. IsStopped (play c m l) was.waiting.items a d u w stop) (sym far.1)
       (stopped_front c m (ended (take at bytes ++ file_piece)) far.0 was.waiting.items a d u w stop front)
 
-  pub file_over : (now : Player) (d : Option (List ℕ)) (w : ℕ) → Plays (play c mid.session.machine file_here.0) mid now b d v w (Ok true)
+  pub file_over : (now : Player) (d : Option (List ℕ)) (w : ℕ) → Plays (play c (machine_in mid.session) file_here.0) mid now b d v w (Ok true)
       → Plays (play c m (cuts bytes)) was now a d u w (Ok true)
   file_over now d w h =
       let front : Plays (play c m (ended (take at bytes ++ file_piece))) was now a d u w (Ok true) = played_then c m (take at bytes) was mid cutter a b u v so_far
@@ -301,13 +302,13 @@ module _ (c : Machine → Cut → Played) (stays : StaysEnded) (m : Machine) (by
       plays_by (play c m (cuts bytes)) (play c m (ended (take at bytes ++ file_piece) ++ far.0)) was now a d u w (Ok true) (ap (play c m) far.1) all
 
   pub file_on : (now : Player) (d : Option (List ℕ)) (w : ℕ) (cut : Cutting) → StandsFor cut (take at bytes ++ file_piece)
-      → Plays (play c mid.session.machine file_here.0) mid now b d v w (Ok false) → HasPlayed c m (take (at + count) bytes) was now cut a d u w
+      → Plays (play c (machine_in mid.session) file_here.0) mid now b d v w (Ok false) → HasPlayed c m (take (at + count) bytes) was now cut a d u w
   file_on now d w cut stands h =
       subst (λ l. HasPlayed c m l was now cut a d u w) (sym parted)
       (played_on c m (take at bytes) was mid cutter a b u v so_far now d w file_piece file_here.0 cut file_here.1 stands h)
 
   pub file_end : (now : Player) (d : Option (List ℕ)) (w : ℕ) (r : Result Bool Stop) → length bytes ≤ at
-      → ((more : List Cut) → cuts (take at bytes) ≡ ended (take at bytes) ++ more → Plays (play c mid.session.machine more) mid now b d v w r)
+      → ((more : List Cut) → cuts (take at bytes) ≡ ended (take at bytes) ++ more → Plays (play c (machine_in mid.session) more) mid now b d v w r)
       → Plays (play c m (cuts bytes)) was now a d u w r
   file_end now d w r past h =
       let front = take at bytes in

@@ -7,6 +7,7 @@ use Rattle.use_text.specs.declared.cut.Cut.{Cut}
 use Rattle.use_text.specs.Cuts.{cuts, ended}
 use Rattle.use_text.specs.Keeping.{Cutting, StandsFor}
 use Rattle.ocl_core.specs.declared.program.ProgramParts.{ProgramParts}
+use Rattle.use_session.specs.Answering.{machine_in}
 use Rattle.use_session.specs.Machine.{Machine}
 use Rattle.use_shell.specs.declared.player.Player.{Player}
 use Rattle.use_shell.specs.declared.status.Status.{Status}
@@ -24,7 +25,7 @@ pub record Puts (old new : Option (List ℕ)) (before after bytes : List ℕ) : 
 
 -- a player has come to what commands lead to
 pub record HasCome (p : Played) (was now : Player) (old new : Option (List ℕ)) (steps steps' : ℕ) : Type 0 where
-  pub machine : now.session.machine ≡ p.machine
+  pub machine : (machine_in now.session) ≡ p.machine
   pub failed : now.failed ≡ (was.failed || p.failed)
   pub puts : Puts old new was.waiting.items now.waiting.items p.bytes
   pub units : steps' ≡ steps + p.units

@@ -6,6 +6,7 @@ ghost use Rattle.use_text.specs.Cuts.{IsCommand, cuts, ended};
 ghost use Rattle.use_text.specs.Keeping.{StandsFor};
 ghost use Rattle.use_text.specs.Limits.{max_lines};
 ghost use Rattle.use_text.specs.Refusals.{refusal_at};
+ghost use Rattle.use_session.specs.Answering.{machine_in};
 ghost use Rattle.use_session.specs.Answers.{refusal_line};
 ghost use Rattle.use_shell.specs.Output.{commands_in, max_file, opens_in, play};
 ghost use Rattle.use_shell.specs.Plays.{Plays};
@@ -42,7 +43,7 @@ fn answer<F: Shelf, K: Sink, L: Ledger>(
 ) -> Result<bool, Stop>
     requires ready { player.old.session.over ≡ false }
     requires command { IsCommand max_lines cut.now }
-    ensures plays { ForSome (F.files shelf.old) (λ held. Plays (commands_in manner.files held manner.echo player.old.session.machine cut.now)
+    ensures plays { ForSome (F.files shelf.old) (λ held. Plays (commands_in manner.files held manner.echo (machine_in player.old.session) cut.now)
         player.old player.new (K.written sink.old) (K.written sink.new) steps.old steps.new result) }
     ensures ready { OnOk result (player.new.session.over ≡ false) }
     ensures files { KeepsFiles (F.files shelf.old) (F.files shelf.new) }
@@ -85,7 +86,7 @@ fn open_file<F: Shelf, K: Sink, L: Ledger>(
     steps: &mut Steps<L>,
 ) -> Result<bool, Stop>
     requires ready { player.old.session.over ≡ false }
-    ensures plays { ForSome (F.files shelf.old) (λ held. Plays (opens_in manner.files held manner.echo player.old.session.machine name.now place)
+    ensures plays { ForSome (F.files shelf.old) (λ held. Plays (opens_in manner.files held manner.echo (machine_in player.old.session) name.now place)
         player.old player.new (K.written sink.old) (K.written sink.new) steps.old steps.new result) }
     ensures ready { OnOk result (player.new.session.over ≡ false) }
     ensures files { KeepsFiles (F.files shelf.old) (F.files shelf.new) }
@@ -119,7 +120,7 @@ fn play_file<F: Shelf, K: Sink, L: Ledger>(
 ) -> Result<bool, Stop>
     requires ready { player.old.session.over ≡ false }
     requires few { length bytes.now ≤ max_file }
-    ensures plays { ForSome (F.files shelf.old) (λ held. Plays (play (commands_in manner.files held manner.echo) player.old.session.machine (cuts bytes.now))
+    ensures plays { ForSome (F.files shelf.old) (λ held. Plays (play (commands_in manner.files held manner.echo) (machine_in player.old.session) (cuts bytes.now))
         player.old player.new (K.written sink.old) (K.written sink.new) steps.old steps.new result) }
     ensures ready { OnOk result (player.new.session.over ≡ false) }
     ensures files { KeepsFiles (F.files shelf.old) (F.files shelf.new) }
@@ -152,7 +153,7 @@ pub(crate) fn play_piece<F: Shelf, K: Sink, L: Ledger>(
     requires ready { player.old.session.over ≡ false }
     requires waiting { cutter.old.waiting ≡ [] }
     requires count { cutter.old.count + length piece.now ≤ max_lines }
-    ensures plays { ForSome (F.files shelf.old) (λ held. (bytes : List ℕ) (more : List Cut) → StandsFor cutter.old bytes → ended (bytes ++ piece.now) ≡ ended bytes ++ more → Plays (play (commands_in manner.files held manner.echo) player.old.session.machine more)
+    ensures plays { ForSome (F.files shelf.old) (λ held. (bytes : List ℕ) (more : List Cut) → StandsFor cutter.old bytes → ended (bytes ++ piece.now) ≡ ended bytes ++ more → Plays (play (commands_in manner.files held manner.echo) (machine_in player.old.session) more)
         player.old player.new (K.written sink.old) (K.written sink.new) steps.old steps.new result) }
     ensures ready { OnOk result (player.new.session.over ≡ false) }
     ensures files { KeepsFiles (F.files shelf.old) (F.files shelf.new) }
@@ -178,7 +179,7 @@ pub(crate) fn play_last<F: Shelf, K: Sink, L: Ledger>(
     requires ready { player.old.session.over ≡ false }
     requires waiting { cutter.old.waiting ≡ [] }
     requires count { cutter.old.count + 2 ≤ max_lines }
-    ensures plays { ForSome (F.files shelf.old) (λ held. (bytes : List ℕ) (more : List Cut) → StandsFor cutter.old bytes → cuts bytes ≡ ended bytes ++ more → Plays (play (commands_in manner.files held manner.echo) player.old.session.machine more)
+    ensures plays { ForSome (F.files shelf.old) (λ held. (bytes : List ℕ) (more : List Cut) → StandsFor cutter.old bytes → cuts bytes ≡ ended bytes ++ more → Plays (play (commands_in manner.files held manner.echo) (machine_in player.old.session) more)
         player.old player.new (K.written sink.old) (K.written sink.new) steps.old steps.new result) }
     ensures ready { OnOk result (player.new.session.over ≡ false) }
     ensures files { KeepsFiles (F.files shelf.old) (F.files shelf.new) }
@@ -202,7 +203,7 @@ fn play_waiting<F: Shelf, K: Sink, L: Ledger>(
 ) -> Result<bool, Stop>
     requires ready { player.old.session.over ≡ false }
     requires count { cutter.old.count ≤ max_lines }
-    ensures plays { ForSome (F.files shelf.old) (λ held. Plays (play (commands_in manner.files held manner.echo) player.old.session.machine cutter.old.waiting)
+    ensures plays { ForSome (F.files shelf.old) (λ held. Plays (play (commands_in manner.files held manner.echo) (machine_in player.old.session) cutter.old.waiting)
         player.old player.new (K.written sink.old) (K.written sink.new) steps.old steps.new result) }
     ensures ready { OnOk result (player.new.session.over ≡ false) }
     ensures files { KeepsFiles (F.files shelf.old) (F.files shelf.new) }

@@ -7,6 +7,7 @@ ghost use Rattle.use_text.specs.Cuts.{StaysEnded, cuts, ended};
 ghost use Rattle.use_text.specs.Keeping.{StandsFor};
 ghost use Rattle.use_text.specs.Limits.{max_lines};
 ghost use Rattle.use_syntax.specs.Language.{language};
+ghost use Rattle.use_session.specs.Answering.{machine_in};
 ghost use Rattle.use_session.specs.Machine.{start};
 ghost use Rattle.use_shell.specs.Output.{commands_in, max_files, max_input, play};
 ghost use Rattle.use_shell.specs.Plays.{IsCutOff, Plays, PlaysAndEnds, Streams, given};
@@ -39,7 +40,7 @@ fn play_taken<F: Shelf, K: Sink, L: Ledger>(
     requires waiting { cutter.old.waiting ≡ [] }
     requires count { cutter.old.count + length piece.now ≤ max_lines }
     ensures plays { ForSome (F.files shelf.old) (λ held. (bytes : List ℕ) (more : List Cut) → StandsFor cutter.old bytes → ended (bytes ++ piece.now) ≡ ended bytes ++ more
-        → Plays (play (commands_in manner.files held manner.echo) player.old.session.machine more) player.old player.new (K.written sink.old) (K.written sink.new) steps.old steps.new result) }
+        → Plays (play (commands_in manner.files held manner.echo) (machine_in player.old.session) more) player.old player.new (K.written sink.old) (K.written sink.new) steps.old steps.new result) }
     ensures ready { OnOk result (player.new.session.over ≡ false) }
     ensures files { KeepsFiles (F.files shelf.old) (F.files shelf.new) }
     ensures cause { StopsByFile (F.faults shelf.old) (F.faults shelf.new) (K.faults sink.old) (K.faults sink.new) result }
@@ -66,7 +67,7 @@ fn play_end<F: Shelf, K: Sink, L: Ledger>(
     requires waiting { cutter.old.waiting ≡ [] }
     requires count { cutter.old.count + 2 ≤ max_lines }
     ensures plays { ForSome (F.files shelf.old) (λ held. (bytes : List ℕ) (more : List Cut) → StandsFor cutter.old bytes → cuts bytes ≡ ended bytes ++ more
-        → PlaysAndEnds (play (commands_in manner.files held manner.echo) player.old.session.machine more) player.old player.new (K.written sink.old) (K.written sink.new) steps.old steps.new result) }
+        → PlaysAndEnds (play (commands_in manner.files held manner.echo) (machine_in player.old.session) more) player.old player.new (K.written sink.old) (K.written sink.new) steps.old steps.new result) }
     ensures ready { OnOk result (player.new.session.over ≡ false) }
     ensures files { KeepsFiles (F.files shelf.old) (F.files shelf.new) }
     ensures cause { StopsByFile (F.faults shelf.old) (F.faults shelf.new) (K.faults sink.old) (K.faults sink.new) result }
@@ -91,15 +92,15 @@ fn play_pieces<S: Source, F: Shelf, K: Sink, L: Ledger>(
     requires files { manner.files ≡ max_files }
     requires stays { StaysEnded }
     requires ready { player.old.session.over ≡ false }
-    requires machine { player.old.session.machine ≡ start player.old.session.machine.program }
+    requires machine { (machine_in player.old.session) ≡ start (machine_in player.old.session).program }
     requires written { player.old.waiting.items ≡ [] }
     requires passed { player.old.failed ≡ false }
     requires waiting { cutter.old.waiting ≡ [] }
     requires stands { StandsFor cutter.old [] }
     requires count { cutter.old.count ≡ 0 }
-    ensures played { Streams (F.files shelf.old) (given player.old.session.machine.program manner.echo manner.strict) manner.strict limit (S.left source.old) (S.left source.new)
+    ensures played { Streams (F.files shelf.old) (given (machine_in player.old.session).program manner.echo manner.strict) manner.strict limit (S.left source.old) (S.left source.new)
         (K.written sink.old) (K.written sink.new) steps.old steps.new result }
-    ensures cut_off { IsErrOf result Stop.Read → ¬ Rose (F.faults shelf.old) (F.faults shelf.new) → IsCutOff (F.files shelf.old) (given player.old.session.machine.program manner.echo manner.strict) limit (S.left source.old) (S.left source.new)
+    ensures cut_off { IsErrOf result Stop.Read → ¬ Rose (F.faults shelf.old) (F.faults shelf.new) → IsCutOff (F.files shelf.old) (given (machine_in player.old.session).program manner.echo manner.strict) limit (S.left source.old) (S.left source.new)
         (K.written sink.old) (K.written sink.new) steps.old steps.new }
     ensures read { IsErrOf result Stop.Read → Rose (S.faults source.old) (S.faults source.new) ⊎ Rose (F.faults shelf.old) (F.faults shelf.new) }
     ensures write { IsErrOf result Stop.Write → Rose (K.faults sink.old) (K.faults sink.new) }

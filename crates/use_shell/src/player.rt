@@ -2,6 +2,7 @@ ghost use Rattle.std.specs.Prelude.{◌≡◌, ◌+◌, ◌++◌, [], IfOk, OnOk
 ghost use Rattle.use_text.specs.Cuts.{IsCommand};
 ghost use Rattle.use_text.specs.Limits.{max_lines};
 ghost use Rattle.use_syntax.specs.Language.{language};
+ghost use Rattle.use_session.specs.Answering.{machine_in};
 ghost use Rattle.use_session.specs.Answers.{refusal_line};
 ghost use Rattle.use_session.specs.Machine.{start, step};
 ghost use Rattle.use_shell.specs.Echo.{echoed};
@@ -41,7 +42,7 @@ impl Player {
         program: Program,
     ) -> Result<Player, AllocError>
         requires { grammar ≡ language }
-        ensures machine { IfOk result (λ p. p.session.machine ≡ start program) }
+        ensures machine { IfOk result (λ p. (machine_in p.session) ≡ start program) }
         ensures ready { IfOk result (λ p. p.session.over ≡ false) }
         ensures waiting { IfOk result (λ p. p.waiting.items ≡ []) }
         ensures failed { IfOk result (λ p. p.failed ≡ false) }
@@ -91,12 +92,12 @@ impl Player {
     ) -> Result<Turn, Stop>
         requires ready { self.old.session.over ≡ false }
         requires command { IsCommand max_lines cut.now }
-        ensures bytes { OnOk result (self.new.waiting.items ≡ self.old.waiting.items ++ (echoed echo cut.now ++ (step self.old.session.machine cut.now).bytes)) }
-        ensures turn { IfOk result (λ turn. turn ≡ (step self.old.session.machine cut.now).turn) }
-        ensures machine { OnOk result (self.new.session.machine ≡ (step self.old.session.machine cut.now).machine) }
+        ensures bytes { OnOk result (self.new.waiting.items ≡ self.old.waiting.items ++ (echoed echo cut.now ++ (step (machine_in self.old.session) cut.now).bytes)) }
+        ensures turn { IfOk result (λ turn. turn ≡ (step (machine_in self.old.session) cut.now).turn) }
+        ensures machine { OnOk result ((machine_in self.new.session) ≡ (step (machine_in self.old.session) cut.now).machine) }
         ensures ready { OnOk result (self.new.session.over ≡ false) }
         ensures failed { OnOk result (self.new.failed ≡ self.old.failed) }
-        ensures units { OnOk result (steps.new ≡ steps.old + (step self.old.session.machine cut.now).units) }
+        ensures units { OnOk result (steps.new ≡ steps.old + (step (machine_in self.old.session) cut.now).units) }
         ensures memory { IsOkUnless result Stop.Memory }
     {
         append_echo(echo, cut, &mut self.waiting)?;

@@ -5,8 +5,8 @@ use Rattle.use_session.proofs.Emptied.{all_go}
 use Rattle.use_session.proofs.Unlinked.{on_ok}
 use Rattle.use_session.proofs.resetting.clear.Goals as goal
 
-pub carry_out_again-requires : goal.carry_out_again-requires
-carry_out_again-requires c =
+pub carry_out_again-requires-clause-on : goal.carry_out_again-requires-clause-on
+carry_out_again-requires-clause-on c =
     let store = c.args.store.now in
     subst (λ (cs : List Change). CanBeCarriedOut store.layout store.state cs) (sym c.in_ok-changes.ensures) (all_go store.layout store.state c.state_is_valid.ensures).0
 

@@ -1,10 +1,11 @@
-use Rattle.std.proofs.Common.{rules, arith, ◌≡◌, ◌++◌, [], true, false, take, refl, sym, ap, ◌∙◌, ⊎_elim}
-use Rattle.use_shell.specs.Output.{commands_in, play, unopened}
-use Rattle.use_shell.proofs.CommandLemmas.{held_of, keeps_same, keeps_then, opens_none, still}
-use Rattle.use_shell.proofs.ComeLemmas.{stopped_early}
+use Rattle.std.proofs.Common.{rules, arith, ◌≡◌, ◌-◌, ◌++◌, [], Some, None, Err, true, false, take, refl, sym, ap, ◌∙◌, ⊎_elim}
+use Rattle.use_session.specs.Answering.{machine_in}
+use Rattle.use_shell.specs.Output.{commands_in, max_file, play, unopened}
+use Rattle.use_shell.proofs.CommandLemmas.{file_beyond, held_of, keeps_same, keeps_then, lacks_of, longer_of, opens_none, opens_one, still}
+use Rattle.use_shell.proofs.ComeLemmas.{stopped_early, stopped_wanting}
 use Rattle.use_shell.proofs.PlayLemmas.{append_cancel}
 use Rattle.use_shell.proofs.StopLemmas.{stops_err, stops_ok, stops_then, stops_written}
-use Rattle.use_shell.proofs.WayLemmas.{check_plays, fetch_plays, file_end, file_here, file_on, file_over, file_stopped, has_begun, none_plays, on_the_way, one_plays, opened_plays, plays_by, quiet_plays, quit_plays, refused_plays, stop_plays, unopened_plays, way_end, way_on, way_over, way_stopped, way_unwritten, way_written}
+use Rattle.use_shell.proofs.WayLemmas.{check_plays, fetch_plays, file_end, file_here, file_on, file_over, file_stopped, has_begun, none_plays, on_the_way, one_plays, opened_plays, plays_behind, plays_by, quiet_plays, quit_plays, refused_plays, stop_plays, unopened_plays, way_end, way_on, way_over, way_stopped, way_unwritten, way_written}
 use Rattle.use_shell.proofs.commands.+commands.Goals as goal
 
 pub answer-open_file-requires-text-name : goal.answer-open_file-requires-text-name
@@ -12,31 +13,61 @@ answer-open_file-requires-text-name g t c κs within = c.as_str.utf8
 
 pub answer-returns-in-Quiet-clause-plays : goal.answer-returns-in-Quiet-clause-plays
 answer-returns-in-Quiet-clause-plays g t c held told =
-    quiet_plays c.args.manner.files held c.args.manner.echo c.args.player.now.session.machine c.args.cut.now _ _ _ _ _ (c.in_ok-step.ensures.machine)
+    quiet_plays c.args.manner.files held c.args.manner.echo (machine_in c.args.player.now.session) c.args.cut.now _ _ _ _ _ (c.in_ok-step.ensures.machine)
     (c.in_ok-step.ensures.bytes) (c.in_ok-step.ensures.units) (sym c.in_ok-step.ensures.turn ∙ c.in-Quiet.is) (c.in_ok-step.ensures.failed)
 
 pub answer-returns-in-Refused-clause-plays : goal.answer-returns-in-Refused-clause-plays
 answer-returns-in-Refused-clause-plays g t c held told =
-    ⊎_elim (λ is. refused_plays c.args.manner.files held c.args.manner.echo c.args.player.now.session.machine c.args.cut.now _ _ _ _ _
+    ⊎_elim (λ is. refused_plays c.args.manner.files held c.args.manner.echo (machine_in c.args.player.now.session) c.args.cut.now _ _ _ _ _
     (c.in_ok-step.ensures.machine) (c.in_ok-step.ensures.bytes) (c.in_ok-step.ensures.units) is.0 (sym c.in_ok-step.ensures.turn ∙ is.1) refl)
-    (λ is. check_plays c.args.manner.files held c.args.manner.echo c.args.player.now.session.machine c.args.cut.now _ _ _ _ _
+    (λ is. check_plays c.args.manner.files held c.args.manner.echo (machine_in c.args.player.now.session) c.args.cut.now _ _ _ _ _
     (c.in_ok-step.ensures.machine) (c.in_ok-step.ensures.bytes) (c.in_ok-step.ensures.units) (sym c.in_ok-step.ensures.turn ∙ is) refl) c.in-Refused.is
 
 pub answer-returns-in-Quit-clause-plays : goal.answer-returns-in-Quit-clause-plays
 answer-returns-in-Quit-clause-plays g t c held told =
-    quit_plays c.args.manner.files held c.args.manner.echo c.args.player.now.session.machine c.args.cut.now _ _ _ _ _ (c.in_ok-step.ensures.machine)
+    quit_plays c.args.manner.files held c.args.manner.echo (machine_in c.args.player.now.session) c.args.cut.now _ _ _ _ _ (c.in_ok-step.ensures.machine)
     (c.in_ok-step.ensures.bytes) (c.in_ok-step.ensures.units) (sym c.in_ok-step.ensures.turn ∙ c.in-Quit.is) (c.in_ok-step.ensures.failed)
 
 pub answer-returns-in-Fetch-clause-plays : goal.answer-returns-in-Fetch-clause-plays
 answer-returns-in-Fetch-clause-plays g t c held told =
-    fetch_plays c.args.manner.files held c.args.manner.echo c.args.player.now.session.machine c.args.cut.now c.in-Fetch.name c.as_str.result.now
+    fetch_plays c.args.manner.files held c.args.manner.echo (machine_in c.args.player.now.session) c.args.cut.now c.in-Fetch.name c.as_str.result.now
     c.in-Fetch.place c.args.player.now c.step.new.self c.open_file.new.player _ _ _ _ _ _ (c.in_ok-step.ensures.machine) (c.in_ok-step.ensures.bytes)
     (c.in_ok-step.ensures.units) (c.in_ok-step.ensures.failed) (sym c.in_ok-step.ensures.turn ∙ c.in-Fetch.is) c.as_str.ensures
     (c.open_file.ensures.plays held told)
 
+pub answer-returns-in_err-step-clause-plays : goal.answer-returns-in_err-step-clause-plays
+answer-returns-in_err-step-clause-plays g t c held told =
+    stop_plays _ _ _ _ _ _ _ c.from_residual.result c.in_err-step.field-0.0 (stopped_wanting _ _ _ _ _ c.in_err-step.field-0.0 c.in_err-step.ensures.memory) (search rules)
+
+pub open_file-returns-in-Err-Missing-clause-plays : goal.open_file-returns-in-Err-Missing-clause-plays
+open_file-returns-in-Err-Missing-clause-plays g t c held told =
+    let m = (machine_in c.args.player.now.session) in
+    let lacks = lacks_of _ held c.args.name.now told (c.in-Err-Missing.ensures.missing (ap Err c.in-Err-Missing.field-0-is)) in
+    plays_by _ (unopened 1 m c.args.place) _ _ _ _ _ _ _
+    (opens_one c.args.manner.files held c.args.manner.echo m c.args.name.now c.args.place None c.if-manner-eq0.false lacks)
+    (plays_behind (unopened 1 m c.args.place) c.args.player.now c.flush.new.self c.refuse-in-Err-Missing.new.player _ _ _ _ _ _ _ c.in_ok-flush.ensures.puts
+    c.flush.ensures.session c.flush.ensures.failed refl
+    (unopened_plays 1 m c.args.place c.flush.new.self c.refuse-in-Err-Missing.new.player _ _ _ c.refuse-in-Err-Missing.result (ap machine_in c.flush.ensures.session) refl
+    c.refuse-in-Err-Missing.ensures.session c.refuse-in-Err-Missing.ensures.over c.refuse-in-Err-Missing.ensures.failed c.refuse-in-Err-Missing.ensures.bytes
+    c.refuse-in-Err-Missing.ensures.memory))
+
+pub open_file-returns-in-Err-TooLong-clause-plays : goal.open_file-returns-in-Err-TooLong-clause-plays
+open_file-returns-in-Err-TooLong-clause-plays g t c held told =
+    let m = (machine_in c.args.player.now.session) in
+    let inner = commands_in (c.args.manner.files - 1) held c.args.manner.echo in
+    let longer = longer_of _ held c.args.name.now max_file told (c.in-Err-TooLong.ensures.long (ap Err c.in-Err-TooLong.field-0-is)) in
+    plays_by _ (unopened 2 m c.args.place) _ _ _ _ _ _ _
+    (opens_one c.args.manner.files held c.args.manner.echo m c.args.name.now c.args.place (Some longer.0) c.if-manner-eq0.false longer.1
+    ∙ file_beyond inner m c.args.place longer.0 longer.2)
+    (plays_behind (unopened 2 m c.args.place) c.args.player.now c.flush.new.self c.refuse-in-Err-TooLong.new.player _ _ _ _ _ _ _ c.in_ok-flush.ensures.puts
+    c.flush.ensures.session c.flush.ensures.failed refl
+    (unopened_plays 2 m c.args.place c.flush.new.self c.refuse-in-Err-TooLong.new.player _ _ _ c.refuse-in-Err-TooLong.result (ap machine_in c.flush.ensures.session) refl
+    c.refuse-in-Err-TooLong.ensures.session c.refuse-in-Err-TooLong.ensures.over c.refuse-in-Err-TooLong.ensures.failed c.refuse-in-Err-TooLong.ensures.bytes
+    c.refuse-in-Err-TooLong.ensures.memory))
+
 pub open_file-returns-then-manner-eq0-clause-plays : goal.open_file-returns-then-manner-eq0-clause-plays
 open_file-returns-then-manner-eq0-clause-plays g t c held told =
-    let m = c.args.player.now.session.machine in
+    let m = (machine_in c.args.player.now.session) in
     plays_by _ (unopened 3 m c.args.place) _ _ _ _ _ _ _ (opens_none c.args.manner.files held c.args.manner.echo m c.args.name.now c.args.place c.if-manner-eq0.true)
     (unopened_plays 3 m c.args.place c.args.player.now c.refuse.new.player _ _ _ c.refuse.result refl refl c.refuse.ensures.session c.refuse.ensures.over c.refuse.ensures.failed
     c.refuse.ensures.bytes c.refuse.ensures.memory)
@@ -135,19 +166,19 @@ play_file-returns-clause-cause g t c =
 
 pub play_last-returns-in-None-clause-plays : goal.play_last-returns-in-None-clause-plays
 play_last-returns-in-None-clause-plays g t c held told bytes more stands is =
-    none_plays (commands_in c.args.manner.files held c.args.manner.echo) c.args.player.now.session.machine more c.args.player.now _ _
+    none_plays (commands_in c.args.manner.files held c.args.manner.echo) (machine_in c.args.player.now.session) more c.args.player.now _ _
     (sym (append_cancel _ _ _ (sym (c.in-None.ensures.last bytes stands) ∙ is))) refl
 
 pub play_last-returns-in-Some-clause-plays : goal.play_last-returns-in-Some-clause-plays
 play_last-returns-in-Some-clause-plays g t c held told bytes more stands is =
-    one_plays (commands_in c.args.manner.files held c.args.manner.echo) c.args.player.now.session.machine c.in-Some.cut more _ _ _ _ _ _ c.answer.result
+    one_plays (commands_in c.args.manner.files held c.args.manner.echo) (machine_in c.args.player.now.session) c.in-Some.cut more _ _ _ _ _ _ c.answer.result
     (sym (append_cancel _ _ _ (sym (c.in-Some.ensures.last bytes stands) ∙ is))) (c.answer.ensures.plays held told)
 
 pub play_piece-returns-clause-plays : goal.play_piece-returns-clause-plays
 play_piece-returns-clause-plays g t c held told bytes more stands is =
     let on = c.in_ok-feed.ensures.fed bytes stands in
     let same : c.feed.new.self.waiting ≡ more = on.waiting ∙ ap (λ l. l ++ on.more) c.requires.waiting ∙ append_cancel _ _ _ (sym on.commands ∙ is) in
-    plays_by _ _ _ _ _ _ _ _ _ (ap (play (commands_in c.args.manner.files held c.args.manner.echo) c.args.player.now.session.machine) (sym same))
+    plays_by _ _ _ _ _ _ _ _ _ (ap (play (commands_in c.args.manner.files held c.args.manner.echo) (machine_in c.args.player.now.session)) (sym same))
     (c.play_waiting.ensures.plays held told)
 
 pub play_waiting-cuts-init : goal.play_waiting-cuts-init
@@ -204,8 +235,8 @@ play_waiting-cuts-preserved g t c = record {
   sink_later = omega (arith, c.cuts.invariant.sink_later, c.answer.ensures.cause.sink_later, c.settle.ensures.cause.later);
   way = λ held told.
       let inner = commands_in c.args.manner.files held c.args.manner.echo in
-      let same = ap (λ s. play inner s.machine c.next.new.self.waiting) (sym c.settle.ensures.session)
-      ∙ ap (λ k. play inner c.settle.new.self.session.machine k.waiting) (sym c.take_back.ensures) in
+      let same = ap (λ s. play inner (machine_in s) c.next.new.self.waiting) (sym c.settle.ensures.session)
+      ∙ ap (λ k. play inner (machine_in c.settle.new.self.session) k.waiting) (sym c.take_back.ensures) in
       way_written inner _ _ _ _ c.answer.new.player c.settle.new.self _ _ _ _ _ _ same
       (way_on inner _ c.in-Some.cut c.next.new.self.waiting c.cuts.cutter.waiting _ c.cuts.player c.answer.new.player _ _ _ _ _ _ c.in-Some.ensures.given
       (c.cuts.invariant.way held told) (rw c.if-branch.false at (c.in_ok-answer.ensures.plays held (still _ _ held c.cuts.invariant.files told))))

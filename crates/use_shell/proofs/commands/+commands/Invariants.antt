@@ -1,6 +1,7 @@
 use Rattle.std.proofs.Common.{length, ◌-◌, ◌≡◌, ◌≤◌, ◌+◌, ◌*◌, [], false, take}
 use Rattle.std.specs.Option.{ForSome}
 use Rattle.use_io.specs.Shelves.{KeepsFiles}
+use Rattle.use_session.specs.Answering.{machine_in}
 use Rattle.use_shell.specs.Output.{commands_in, play}
 use Rattle.use_shell.specs.Plays.{HasPlayed, IsOnTheWay}
 use Rattle.use_shell.proofs.commands.+commands.Given as goal
@@ -32,7 +33,7 @@ invariant-play_file-pieces g l = record {
   files : KeepsFiles (g.F.Shelf.files l.fn.shelf) (g.F.Shelf.files l.shelf);
   shelf_later : g.F.Shelf.faults l.fn.shelf ≤ g.F.Shelf.faults l.shelf;
   sink_later : g.K.Sink.faults l.fn.sink ≤ g.K.Sink.faults l.sink;
-  played : ForSome (g.F.Shelf.files l.fn.shelf) (λ held. HasPlayed (commands_in l.manner.files held l.manner.echo) l.fn.player.session.machine (take l.at l.bytes)
+  played : ForSome (g.F.Shelf.files l.fn.shelf) (λ held. HasPlayed (commands_in l.manner.files held l.manner.echo) (machine_in l.fn.player.session) (take l.at l.bytes)
       l.fn.player l.player l.cutter (g.K.Sink.written l.fn.sink) (g.K.Sink.written l.sink) l.fn.steps l.steps);
 }
 
@@ -48,8 +49,8 @@ invariant-play_waiting-cuts g l = record {
   shelf_later : g.F.Shelf.faults l.fn.shelf ≤ g.F.Shelf.faults l.shelf;
   sink_later : g.K.Sink.faults l.fn.sink ≤ g.K.Sink.faults l.sink;
   way : ForSome (g.F.Shelf.files l.fn.shelf) (λ held. IsOnTheWay
-      (play (commands_in l.manner.files held l.manner.echo) l.fn.player.session.machine l.fn.cutter.waiting)
-      (play (commands_in l.manner.files held l.manner.echo) l.player.session.machine l.cutter.waiting)
+      (play (commands_in l.manner.files held l.manner.echo) (machine_in l.fn.player.session) l.fn.cutter.waiting)
+      (play (commands_in l.manner.files held l.manner.echo) (machine_in l.player.session) l.cutter.waiting)
       l.fn.player l.player (g.K.Sink.written l.fn.sink) (g.K.Sink.written l.sink) l.fn.steps l.steps);
 }
 

@@ -1,12 +1,28 @@
-use Rattle.std.proofs.Common.{arith}
-use Rattle.use_session.proofs.Scoping.{may_run, scope_of}
+use Rattle.std.proofs.Common.{Option, IfSome, refl, sym, subst}
+use Rattle.class_model.specs.InRange.{IsInRange}
+use Rattle.entry_states.specs.Frames.{entered}
+use Rattle.soil_check.specs.declared.scope.Bindings.{Bindings}
+use Rattle.soil_check.specs.Checks.{AreBindingsOf}
+use Rattle.object_state.specs.Looks.{look}
+use Rattle.use_session.proofs.Framed.{top_is_call}
+use Rattle.use_session.proofs.Keeping.{present_proper}
+use Rattle.use_session.proofs.Scoping.{frame_of, may_run, scope_of}
 use Rattle.use_session.proofs.machine.Machine.check.Goals as goal
+
+pub top_bindings-requires : goal.top_bindings-requires
+top_bindings-requires c =
+    let k = c.args.self.now in
+    top_is_call k.program k.frames (look k.store.layout k.store.state) (present_proper k c.requires.kept).calls
 
 pub returns-clause-fit : goal.returns-clause-fit
 returns-clause-fit c =
-    let kept = c.requires.kept in
-    let store = c.args.self.now.store in
-    may_run c.args.self.now.program.model c.check_command.result
+    let k = c.args.self.now in
+    let q = look k.store.layout k.store.state in
+    let before = present_proper k c.requires.kept in
+    let ranges = subst IsInRange c.model.ensures c.has_numbers_in_range.ensures in
+    let bindings = subst (λ (b : Option Bindings). IfSome b (AreBindingsOf k.program.model)) (sym (c.in_ok-bindings.ensures q))
+    (frame_of k.program.model ranges k.program refl (entered k.frames q) before.calls) in
+    may_run k.program.model c.check_command.result
     (c.check_command.ensures.in_range
-    (scope_of c.args.self.now.program.model store.layout store.state kept.layout c.state_is_valid.ensures (kept.types 0 store.state (omega arith))))
+    (scope_of k.program.model k.store.layout k.store.state c.requires.kept.layout c.state_is_valid.ensures before.types c.in_ok-bindings.bindings bindings))
     c.check_command.ensures.names

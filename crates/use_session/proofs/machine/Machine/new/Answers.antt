@@ -13,11 +13,12 @@ returns-clause-kept c =
       program = c.program.inside.parts;
       store = c.new.result;
       structure = c.new-2.result;
+      frames = c.new-3.result;
       history = c.in_ok-new.field-0;
       cache = c.new-cache.result;
     } in
     let same : c.args.program ≡ k.program = sym c.program.view_is in
-    begun_kept k c.new.ensures.state c.in_ok-new.ensures
+    begun_kept k c.new.ensures.state c.in_ok-new.ensures c.new-3.ensures
     (c.new.ensures.layout ∙ c.in_ok-layout.ensures ∙ ap layout_of c.model.ensures ∙ ap (λ (p : ProgramParts). layout_of p.model) same)
     (c.new-2.ensures k.program.model) (sym (c.new-cache.ensures ∙ ap (λ (p : ProgramParts). length p.invariants) same))
 
@@ -28,7 +29,8 @@ returns-clause-machine c =
       program = c.program.inside.parts;
       store = c.new.result;
       structure = c.new-2.result;
+      frames = c.new-3.result;
       history = c.in_ok-new.field-0;
       cache = c.new-cache.result;
     } in
-    begun_machine k c.new.ensures.state c.in_ok-new.ensures ∙ ap start c.program.view_is
+    begun_machine k c.new.ensures.state c.in_ok-new.ensures c.new-3.ensures ∙ ap start c.program.view_is

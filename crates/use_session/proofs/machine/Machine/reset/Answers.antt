@@ -15,6 +15,6 @@ clear-requires c =
 
 pub returns : goal.returns
 returns c = λ bytes.
-    reset_told c.args.self.now c.requires c.state_is_valid.ensures bytes c.in_ok-gone.gone c.as_slice.result.now c.clear-2.new.self c.clear.new.store
-    c.model-model.result.now c.note_all.new.structure c.in_ok-gone.ensures.changes c.clear-2.ensures c.in_ok-gone.ensures.state c.model-model.ensures c.as_slice.ensures
-    c.in_ok-note_all.ensures
+    reset_told c.args.self.now c.requires c.state_is_valid.ensures bytes c.in_ok-gone.gone c.as_slice.result.now c.new.result c.clear-2.new.self c.clear.new.store
+    c.model-model.result.now c.note_all.new.structure c.in_ok-gone.ensures.changes c.new.ensures c.clear-2.ensures c.in_ok-gone.ensures.state c.model-model.ensures
+    c.as_slice.ensures c.in_ok-note_all.ensures
