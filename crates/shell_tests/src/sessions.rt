@@ -3,6 +3,7 @@ ghost use Rattle.use_text.specs.Limits.{max_command, max_lines};
 ghost use Rattle.use_text.specs.Tokens.{IsWithin};
 ghost use Rattle.use_syntax.specs.Language.{language};
 
+mod calls;
 mod check;
 mod control;
 mod destroy;
@@ -17,6 +18,7 @@ mod rollback;
 mod unbuilt;
 mod variables;
 
+use calls::{CALLED, DESTROYED_RECEIVER, ENTERED, PERSONS, STAFF};
 use control::CONTROL;
 use destroy::DESTROYED;
 use grammar_core::Grammar;
@@ -290,6 +292,38 @@ fn queries_are_answered_with_value_and_type(rt: HostRuntime) -> Result<(), Fail>
 fn each_rule_refuses_a_command(rt: HostRuntime) -> Result<(), Fail> {
     assert_eq!(rt;
         wrong_line::<Brand>(rt.alloc(), BOXES.as_bytes(), REFUSALS, Blank::new(1))?,
+        None
+    );
+    Ok(())
+}
+
+#[test]
+fn calls_check_their_contracts(rt: HostRuntime) -> Result<(), Fail> {
+    assert_eq!(rt;
+        wrong_line::<Brand>(rt.alloc(), STAFF.as_bytes(), CALLED, Blank::new(1))?,
+        None
+    );
+    Ok(())
+}
+
+#[test]
+fn calls_are_entered_and_left(rt: HostRuntime) -> Result<(), Fail> {
+    assert_eq!(rt;
+        wrong_line::<Brand>(rt.alloc(), STAFF.as_bytes(), ENTERED, Blank::new(1))?,
+        None
+    );
+    Ok(())
+}
+
+#[test]
+fn a_call_is_left_though_its_receiver_is_destroyed(rt: HostRuntime) -> Result<(), Fail> {
+    assert_eq!(rt;
+        wrong_line::<Brand>(
+            rt.alloc(),
+            PERSONS.as_bytes(),
+            DESTROYED_RECEIVER,
+            Blank::new(1)
+        )?,
         None
     );
     Ok(())
