@@ -11,11 +11,13 @@ mod history;
 mod info;
 mod limits;
 mod links;
+mod nested;
 mod objects;
 mod queries;
 mod refusals;
 mod rollback;
 mod unbuilt;
+mod undone;
 mod variables;
 
 use calls::{CALLED, DESTROYED_RECEIVER, ENTERED, PERSONS, STAFF};

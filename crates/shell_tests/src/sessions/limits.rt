@@ -182,3 +182,20 @@ fn expressions_nest_256_deep(rt: HostRuntime) -> Result<(), Fail> {
     );
     Ok(())
 }
+
+#[test]
+fn sixty_four_calls_are_open_at_most(rt: HostRuntime) -> Result<(), Fail> {
+    let alloc = rt.alloc();
+    let commands: [(u32, &[u8]); 2] = [
+        (1, b"!b := new Box; b.size := 1"),
+        (64, b"openter b grow(1)"),
+    ];
+    let out = last_answer::<Brand>(alloc, &commands, b"? self.size + by", Blank::new(1))?;
+    assert_eq!(rt; out.as_slice(), b"-> 2 : Integer\n".as_slice());
+    let out = last_answer::<Brand>(alloc, &commands, b"openter b grow(1)", Blank::new(1))?;
+    assert_eq!(rt;
+        out.as_slice(),
+        b"refused C4 at 7:1: too many open operations\n".as_slice()
+    );
+    Ok(())
+}

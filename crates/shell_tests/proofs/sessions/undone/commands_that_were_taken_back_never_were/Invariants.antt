@@ -1,0 +1,4 @@
+use Rattle.shell_tests.proofs.sessions.undone.commands_that_were_taken_back_never_were.Given as goal
+
+abbrev pub ghosts-asked : goal.ghosts-asked
+ghosts-asked g a = record { name = a.blank.name; parts = a.blank.parts }
