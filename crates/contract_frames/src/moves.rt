@@ -64,7 +64,7 @@ pub fn leave<L: Ledger>(
     ensures keeps { OnOk result ((q : Picture) → entered frames.new q ≡ drop 1 (entered frames.old q)) }
     ensures grown { OnOk result (Grown (drop 1 frames.old) frames.new) }
     ensures none { NotMemory result (OnErr result (frames.new ≡ frames.old)) }
-    ensures units { OnOk result (steps.new ≡ steps.old + top_post_units program.now store.now frames.old given.now) }
+    ensures units { NotMemory result (steps.new ≡ steps.old + top_post_units program.now store.now frames.old given.now) }
 {
     if frames.depth() == 0 {
         return Err(FrameFault::Nothing);

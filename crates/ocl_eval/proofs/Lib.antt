@@ -1,6 +1,7 @@
 mod Pairs
 mod Depth
 mod Literals
+mod Ready
 pub mod Congruence
 pub mod Local
 pub mod More

@@ -7,7 +7,6 @@ ghost use Rattle.ocl_eval.specs.Nodes.{node};
 ghost use Rattle.ocl_core.specs.Trees.{IsSound};
 ghost use Rattle.ocl_core.specs.Programs.{IsSoundProgram};
 
-use crate::costs::pay;
 use crate::node::Node;
 use crate::{Meter, Setting, States, Stop, Values};
 use ocl_core::Expr;
@@ -47,11 +46,9 @@ where
         ensures locals { locals.new ≡ locals.old }
         ensures ticks { V.count steps.new + meter.new.fuel ≡ V.count steps.old + meter.old.fuel }
     {
-        let alloc = self.setting.alloc;
-        let states = self.setting.states;
         match e {
-            Expr::Literal(value) => pay(states, value.try_copy(alloc)?, meter, steps),
-            Expr::Local(number) => pay(states, locals.copy_of(alloc, *number)?, meter, steps),
+            Expr::Literal(value) => self.literal(value, meter, steps),
+            Expr::Local(number) => self.local(*number, locals, meter, steps),
             Expr::Unary(op, a) => self.unary(*op, a.get(), locals, meter, steps),
             Expr::Binary(op, a, b) => self.binary(*op, a.get(), b.get(), locals, meter, steps),
             Expr::If(c, a, b) => self.choice(c.get(), a.get(), b.get(), locals, meter, steps),

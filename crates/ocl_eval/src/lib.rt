@@ -6,6 +6,7 @@ mod costs;
 mod env;
 mod evaluation;
 mod evaluator;
+mod integers;
 mod iteration;
 mod laws;
 mod layers;

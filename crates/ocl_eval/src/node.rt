@@ -1,8 +1,8 @@
 ghost use Rattle.std.specs.Prelude.{◌≡◌, ◌+◌, ◌++◌, ◌∷◌, [], All, IfOk, MatchOption, ⊤};
 ghost use Rattle.ocl_values.specs.Shape.{IsWellMade};
 ghost use Rattle.ocl_eval.specs.Parts.{Evaluates, ev_in};
-ghost use Rattle.ocl_eval.specs.Evaluations.{Gives};
-ghost use Rattle.ocl_eval.specs.Nodes.{bind, binary, branch, choice, collection, paid, plain, right, to_set, unary, values};
+ghost use Rattle.ocl_eval.specs.Evaluations.{Gives, pay};
+ghost use Rattle.ocl_eval.specs.Nodes.{bind, binary, branch, choice, collection, entry_of, paid, plain, right, to_set, unary, values};
 ghost use Rattle.ocl_core.specs.Trees.{IsSound};
 ghost use Rattle.ocl_core.specs.Programs.{IsSoundProgram};
 
@@ -43,6 +43,40 @@ where
         ensures ticks { V.count steps.new + meter.new.fuel ≡ V.count steps.old + meter.old.fuel }
     {
         (self.value)(&self.setting, e, locals, meter, steps)
+    }
+
+    /// The value of a literal.
+    #[inline(never)]
+    pub(crate) fn literal(
+        &self,
+        value: &Value,
+        meter: &mut Meter,
+        steps: &mut S,
+    ) -> Result<Value, Stop>
+        requires { IsWellMade value.now }
+        ensures value { Gives (pay value.now meter.old) result meter.new }
+        ensures well_made { IfOk result IsWellMade }
+        ensures ticks { V.count steps.new + meter.new.fuel ≡ V.count steps.old + meter.old.fuel }
+    {
+        let copy = value.try_copy(self.setting.alloc)?;
+        pay(self.setting.states, copy, meter, steps)
+    }
+
+    /// The value that is bound at a place.
+    #[inline(never)]
+    pub(crate) fn local(
+        &self,
+        number: u32,
+        locals: &Values,
+        meter: &mut Meter,
+        steps: &mut S,
+    ) -> Result<Value, Stop>
+        ensures value { Gives (pay (entry_of locals.now number) meter.old) result meter.new }
+        ensures well_made { IfOk result IsWellMade }
+        ensures ticks { V.count steps.new + meter.new.fuel ≡ V.count steps.old + meter.old.fuel }
+    {
+        let copy = locals.copy_of(self.setting.alloc, number)?;
+        pay(self.setting.states, copy, meter, steps)
     }
 
     #[tactic(auto, unfolding(crate::specs::Nodes::unary))]
@@ -118,6 +152,9 @@ where
         ensures locals { locals.new ≡ locals.old }
         ensures ticks { V.count steps.new + meter.new.fuel ≡ V.count steps.old + meter.old.fuel }
     {
+        if let BinaryOp::Int(op) = op {
+            return self.integers(op, a, b, locals, meter, steps);
+        }
         let x = self.part(a, locals, meter, steps)?;
         let known = decided(op, &x);
         self.right(op, x, b, known, locals, meter, steps)

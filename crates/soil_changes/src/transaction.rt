@@ -1,4 +1,4 @@
-ghost use Rattle.std.specs.Prelude.{◌≡◌, ◌∷◌, ◌<◌, ◌-◌, ◌≤◌, ◌^◌, OnOk, length};
+ghost use Rattle.std.specs.Prelude.{◌≡◌, ◌∷◌, ◌<◌, ◌-◌, ◌≤◌, ◌^◌, OnOk, [], length};
 ghost use Rattle.object_state.specs.Changes.{apply, inverse};
 ghost use Rattle.object_state.specs.Faults.{Fits, OldPartsAgree};
 ghost use Rattle.object_state.specs.Weights.{change_weight};
@@ -189,10 +189,12 @@ impl Transaction {
         }
     }
 
-    /// Takes all changes back, the last first.
+    /// Takes all changes back, the last first. What they weighed stays spent.
     pub fn roll_back(&mut self) -> Result<(), AllocError>
         ensures start { OnOk result (diagram_of self.new ≡ record { layout = self.old.layout; state = self.old.start }) }
         ensures noted { OnOk result (AreNoted self.old.layout self.old.state self.old.start self.old.frames self.new.frames) }
+        ensures none { OnOk result (self.new.changes ≡ []) }
+        ensures spent { OnOk result (self.new.left ≡ self.old.left) }
     {
         let changes = mem::replace(&mut self.changes, Vec::new(self.alloc));
         take_back(self.alloc, &mut self.store, &mut self.frames, changes)

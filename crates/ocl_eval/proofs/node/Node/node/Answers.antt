@@ -2,7 +2,6 @@ use Rattle.std.proofs.Common.{All, subst, sym, rules}
 use Rattle.std.specs.Prelude.{MatchOption, ⊤}
 use Rattle.ocl_core.specs.declared.expression.Expr.{the_lemmas}
 use Rattle.ocl_core.specs.declared.expression.Expr.TheOpen.{Expr-F}
-use Rattle.ocl_values.specs.Shape.{IsWellMade}
 use Rattle.ocl_core.specs.Trees.{IsSound}
 use Rattle.ocl_eval.proofs.Literals.{parts_sound, sound_as, start_sound}
 use Rattle.ocl_eval.proofs.node.Node.node.Goals as goal
@@ -87,10 +86,8 @@ pub make-requires-clause-trees : goal.make-requires-clause-trees
 make-requires-clause-trees g c = parts_sound _ _ c.as_slice.ensures (sound_as _ _ (Expr-F.Make c.in-Make.kind c.in-Make.all) c.requires.tree c.in-Make.is
     (search (rules, the_lemmas)))
 
-pub pay-requires : goal.pay-requires
-pay-requires g c =
-    subst IsWellMade (sym c.in_ok-try_copy-in-Literal.ensures) (sound_as _ _ (Expr-F.Literal c.in-Literal.value) c.requires.tree c.in-Literal.is (search
-    (rules, the_lemmas)))
+pub literal-requires : goal.literal-requires
+literal-requires g c = sound_as _ _ (Expr-F.Literal c.in-Literal.value) c.requires.tree c.in-Literal.is (search (rules, the_lemmas))
 
 pub iterator-requires-clause-start : goal.iterator-requires-clause-start
 iterator-requires-clause-start g c =

@@ -1,0 +1,117 @@
+-- Operations of integers, by the integers that their operands are.
+use Rattle.std.proofs.Common.{◌≡◌, ℕ, ℤ, suc, ◌-◌, ◌<◌, true, cond, is_some, nat_le, List, Option, Some, None, refl, ap, ◌∙◌, arith}
+use Rattle.std.proofs.lemmas.Bool.{le-leb}
+use Rattle.ocl_values.specs.Integers.{int_op_value}
+use Rattle.ocl_values.specs.declared.integer.IntOp.{IntOp}
+use Rattle.ocl_values.specs.declared.value.Value.{Value}
+use Rattle.ocl_values.specs.declared.value.Value.TheVariants as V
+use Rattle.ocl_values.specs.declared.value.Value.TheVariants.{Null, Invalid, Int, Coll'}
+use Rattle.ocl_core.specs.declared.expression.Expr.{Expr, out-Expr}
+use Rattle.ocl_core.specs.declared.expression.Expr.TheOpen.{Expr-F}
+use Rattle.ocl_core.specs.declared.operators.BinaryOp.TheVariants as B
+use Rattle.ocl_core.specs.declared.operators.When.{When}
+use Rattle.ocl_core.specs.Trees.{Layer}
+use Rattle.ocl_operations.specs.Operators.{decided}
+use Rattle.ocl_eval.specs.declared.meter.Meter.{Meter}
+use Rattle.ocl_eval.specs.Evaluation.{ev}
+use Rattle.ocl_eval.specs.Evaluations.{Evaluation, Outcome, ◌>>=◌, pay, pure, then_with}
+use Rattle.ocl_eval.specs.Integers.{integer, integer_in, integers, of_integers, ready, ready_in}
+use Rattle.ocl_eval.specs.Nodes.{binary, entry_of, layer, node, right}
+use Rattle.ocl_eval.specs.Scenes.{Scene}
+use Rattle.ocl_eval.proofs.Depth.{deeper}
+
+-- an operation looks at no more of an operand than the integer that it is
+of_right : (op : IntOp) (x : ℤ) (b : Value) → int_op_value op (Int x) b ≡ of_integers op (Some x) (integer_in b)
+of_right op x Null = refl
+of_right op x Invalid = refl
+of_right op x (V.Bool i) = refl
+of_right op x (Int i) = refl
+of_right op x (V.Str t) = refl
+of_right op x (V.Enum e l) = refl
+of_right op x (V.Obj o) = refl
+of_right op x (Coll' kind shape row) = refl
+
+of_both : (op : IntOp) (a b : Value) → int_op_value op a b ≡ of_integers op (integer_in a) (integer_in b)
+of_both op Null b = refl
+of_both op Invalid b = refl
+of_both op (V.Bool i) b = refl
+of_both op (Int x) b = of_right op x b
+of_both op (V.Str t) b = refl
+of_both op (V.Enum e l) b = refl
+of_both op (V.Obj o) b = refl
+of_both op (Coll' kind shape row) b = refl
+
+module _ (e : List Value → Expr → Evaluation Value) (env : List Value) (op : IntOp) where
+  second : (x : Value) (o : Outcome Value) → then_with o (λ y. pay (int_op_value op x y))
+      ≡ then_with (then_with o (λ y. pure (integer_in y))) (λ y. pay (of_integers op (integer_in x) y))
+  second x (Some y, m) = ap (λ v. pay v m) (of_both op x y)
+  second x (None, m) = refl
+
+  first : (b : Expr) (o : Outcome Value) → then_with o (λ x. right e env (B.Int op) x b (decided (B.Int op) x))
+      ≡ then_with (then_with o (λ x. pure (integer_in x))) (λ x. integer e env b >>= (λ y. pay (of_integers op x y)))
+  first b (Some x, m) = second x (e env b m)
+  first b (None, m) = refl
+
+  pub as_integers : (a b : Expr) (m : Meter) → binary e env (B.Int op) a b m ≡ integers e env op a b m
+  unfolding binary integers
+  as_integers a b m = first b (e env a m)
+
+-- ---- an operand that stands ready
+
+is_integer : (v : Value) (n : ℤ) → integer_in v ≡ Some n → v ≡ Int n
+is_integer Null n h = absurd (cc)
+is_integer Invalid n h = absurd (cc)
+is_integer (V.Bool i) n h = absurd (cc)
+is_integer (Int i) n h = cc
+is_integer (V.Str t) n h = absurd (cc)
+is_integer (V.Enum e l) n h = absurd (cc)
+is_integer (V.Obj o) n h = absurd (cc)
+is_integer (Coll' kind shape row) n h = absurd (cc)
+
+module _ (n : ℤ) (m : Meter) (some : 0 < m.fuel) where
+  abbrev after : Outcome Value
+  after = (Some (Int n), record m { fuel = m.fuel - 1 })
+
+  enough : nat_le 1 m.fuel ≡ true
+  enough = le-leb 1 m.fuel (omega (arith, some))
+
+  paid : pay (Int n) m ≡ after
+  paid = ap (λ b. then_with (cond b (Some tt, record m { fuel = m.fuel - 1 }) (None, m)) (λ _. pure (Int n))) enough
+
+  paid_as : (v : Value) → integer_in v ≡ Some n → pay v m ≡ after
+  paid_as v h = ap (λ x. pay x m) (is_integer v n h) ∙ paid
+
+  module _ (s : Scene) (e : When → List Value → Expr → Evaluation Value) (at : When) (env : List Value) where
+    in_layer : (l : Layer) → ready_in env l ≡ Some n → layer s e at env l m ≡ after
+    in_layer (Expr-F.Literal v) h = paid_as v h
+    in_layer (Expr-F.Local k) h = paid_as (entry_of env k) h
+    in_layer (Expr-F.Unary op a) h = absurd (cc)
+    in_layer (Expr-F.Binary op a b) h = absurd (cc)
+    in_layer (Expr-F.If c a b) h = absurd (cc)
+    in_layer (Expr-F.Let a b) h = absurd (cc)
+    in_layer (Expr-F.Make kind all) h = absurd (cc)
+    in_layer (Expr-F.Plain op all) h = absurd (cc)
+    in_layer (Expr-F.Coll op all) h = absurd (cc)
+    in_layer (Expr-F.Iter op source count start body) h = absurd (cc)
+    in_layer (Expr-F.Attr a number when) h = absurd (cc)
+    in_layer (Expr-F.Derived a number when) h = absurd (cc)
+    in_layer (Expr-F.Nav a assoc end when) h = absurd (cc)
+    in_layer (Expr-F.Extent class when) h = absurd (cc)
+    in_layer (Expr-F.Query a op all) h = absurd (cc)
+    in_layer (Expr-F.Test test a t when) h = absurd (cc)
+    in_layer (Expr-F.IsNew a) h = absurd (cc)
+    in_layer (Expr-F.ToSet a) h = absurd (cc)
+
+  in_node : (s : Scene) (k : ℕ) (at : When) (env : List Value) (x : Expr) → ready env x ≡ Some n → ev s (suc k) at env x m ≡ after
+  unfolding ev node ready
+  in_node s k at env x h = in_layer s (ev s k) at env (out-Expr x) h
+
+  by_ready : (s : Scene) (levels : ℕ) (at : When) (env : List Value) (x : Expr) → 0 < levels → ready env x ≡ Some n
+      → integer (ev s levels at) env x m ≡ (Some (Some n), record m { fuel = m.fuel - 1 })
+  by_ready s levels at env x more h =
+      ap (λ o. then_with o (λ v. pure (integer_in v))) (deeper (λ k. ev s k at env x m) levels more ∙ in_node s (levels - 1) at env x h)
+
+pub ready_gives : (o : Option ℤ) (m : Meter) (s : Scene) (levels : ℕ) (at : When) (env : List Value) (x : Expr) → is_some o ≡ true → 0 < m.fuel → 0 < levels
+    → ready env x ≡ o → integer (ev s levels at) env x m ≡ (Some o, record m { fuel = m.fuel - 1 })
+ready_gives None m s levels at env x found some more h = absurd (cc)
+ready_gives (Some n) m s levels at env x found some more h = by_ready n m some s levels at env x more h

@@ -1,0 +1,153 @@
+ghost use Rattle.std.specs.Prelude.{◌≡◌, ◌+◌, IfOk};
+ghost use Rattle.ocl_values.specs.Shape.{IsWellMade};
+ghost use Rattle.ocl_eval.specs.Parts.{Evaluates, ev_in};
+ghost use Rattle.ocl_eval.specs.Evaluations.{Gives};
+ghost use Rattle.ocl_eval.specs.Nodes.{entry_of};
+ghost use Rattle.ocl_eval.specs.Integers.{integer, integer_in, integers, of_integers, ready};
+ghost use Rattle.ocl_core.specs.Trees.{IsSound};
+ghost use Rattle.ocl_core.specs.Programs.{IsSoundProgram};
+
+use crate::costs::pay;
+use crate::node::Node;
+use crate::{Meter, Setting, States, Stop, Values};
+use ocl_core::{Expr, IntOp};
+use ocl_values::{Value, int_op};
+
+/// The integer that a value is, if it is one.
+fn integer_in(value: &Value) -> Option<i128>
+    ensures { result ≡ integer_in value.now }
+{
+    match value {
+        Value::Int(n) => Some(*n),
+        _ => None,
+    }
+}
+
+/// The integer that is bound at a place, if it is one.
+fn integer_at(locals: &Values, at: u32) -> Option<i128>
+    ensures { result ≡ integer_in (entry_of locals.now at) }
+{
+    match locals.as_slice().get(at as usize) {
+        Some(value) => integer_in(value),
+        None => None,
+    }
+}
+
+/// The integer that stands ready as a literal or in the environment, if it is one.
+#[tactic(auto, unfolding(crate::specs::Integers::ready))]
+fn ready(e: &Expr, locals: &Values) -> Option<i128>
+    ensures { result ≡ ready locals.now e.now }
+{
+    match e {
+        Expr::Literal(value) => integer_in(value),
+        Expr::Local(number) => integer_at(locals, *number),
+        Expr::Unary(_, _)
+        | Expr::Binary(_, _, _)
+        | Expr::If(_, _, _)
+        | Expr::Let(_, _)
+        | Expr::Make(_, _)
+        | Expr::Plain(_, _)
+        | Expr::Coll(_, _)
+        | Expr::Iter(_, _, _, _, _)
+        | Expr::Attr(_, _, _)
+        | Expr::Derived(_, _, _)
+        | Expr::Nav(_, _, _, _)
+        | Expr::Extent(_, _)
+        | Expr::Query(_, _, _)
+        | Expr::Test(_, _, _, _)
+        | Expr::IsNew(_)
+        | Expr::ToSet(_) => None,
+    }
+}
+
+/// An operation of the integers that its operands are; an operand that is none makes it invalid.
+fn of_integers(op: IntOp, x: Option<i128>, y: Option<i128>) -> Value
+    ensures value { result ≡ of_integers op x y }
+    ensures well_made { IsWellMade result }
+{
+    match x {
+        None => Value::Invalid,
+        Some(x) => match y {
+            None => int_op(op, &Value::Int(x), &Value::Null),
+            Some(y) => int_op(op, &Value::Int(x), &Value::Int(y)),
+        },
+    }
+}
+
+/// Operations of integers. Most of their operands stand ready, and are not copied to be looked at.
+impl<S, V: States<S>, F> Node<'_, S, V, F>
+where
+    F: Fn(&Setting<'_, V>, &Expr, &mut Values, &mut Meter, &mut S) -> Result<Value, Stop>,
+{
+    /// The integer that a part gives, if it is one.
+    fn evaluated(
+        &self,
+        e: &Expr,
+        locals: &mut Values,
+        meter: &mut Meter,
+        steps: &mut S,
+    ) -> Result<Option<i128>, Stop>
+        requires parts { Evaluates V.now V.pre V.count self.now.setting.levels (F.pre self.now.value) (F.post self.now.value) }
+        requires program { IsSoundProgram self.now.setting.program.now }
+        requires tree { IsSound e.now }
+        ensures value { Gives (integer (ev_in V.now V.pre self.now.setting) locals.old e.now meter.old) result meter.new }
+        ensures locals { locals.new ≡ locals.old }
+        ensures ticks { V.count steps.new + meter.new.fuel ≡ V.count steps.old + meter.old.fuel }
+    {
+        let value = self.part(e, locals, meter, steps)?;
+        Ok(integer_in(&value))
+    }
+
+    /// The same, where the integer may stand ready.
+    #[inline]
+    fn integer(
+        &self,
+        e: &Expr,
+        locals: &mut Values,
+        meter: &mut Meter,
+        steps: &mut S,
+    ) -> Result<Option<i128>, Stop>
+        requires parts { Evaluates V.now V.pre V.count self.now.setting.levels (F.pre self.now.value) (F.post self.now.value) }
+        requires program { IsSoundProgram self.now.setting.program.now }
+        requires tree { IsSound e.now }
+        ensures value { Gives (integer (ev_in V.now V.pre self.now.setting) locals.old e.now meter.old) result meter.new }
+        ensures locals { locals.new ≡ locals.old }
+        ensures ticks { V.count steps.new + meter.new.fuel ≡ V.count steps.old + meter.old.fuel }
+    {
+        if self.setting.levels > 0 && meter.fuel > 0 {
+            let found = ready(e, locals);
+            if found.is_some() {
+                meter.fuel -= 1;
+                self.setting.states.tick_by(1, steps);
+                return Ok(found);
+            }
+        }
+        self.evaluated(e, locals, meter, steps)
+    }
+
+    /// An operation of integers between two operands.
+    #[tactic(auto, unfolding(crate::specs::Integers::integers))]
+    #[inline(never)]
+    pub(crate) fn integers(
+        &self,
+        op: IntOp,
+        a: &Expr,
+        b: &Expr,
+        locals: &mut Values,
+        meter: &mut Meter,
+        steps: &mut S,
+    ) -> Result<Value, Stop>
+        requires parts { Evaluates V.now V.pre V.count self.now.setting.levels (F.pre self.now.value) (F.post self.now.value) }
+        requires program { IsSoundProgram self.now.setting.program.now }
+        requires first { IsSound a.now }
+        requires second { IsSound b.now }
+        ensures value { Gives (integers (ev_in V.now V.pre self.now.setting) locals.old op a.now b.now meter.old) result meter.new }
+        ensures well_made { IfOk result IsWellMade }
+        ensures locals { locals.new ≡ locals.old }
+        ensures ticks { V.count steps.new + meter.new.fuel ≡ V.count steps.old + meter.old.fuel }
+    {
+        let x = self.integer(a, locals, meter, steps)?;
+        let y = self.integer(b, locals, meter, steps)?;
+        pay(self.setting.states, of_integers(op, x, y), meter, steps)
+    }
+}
