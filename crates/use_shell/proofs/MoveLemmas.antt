@@ -1,8 +1,9 @@
 -- Bytes that are taken and put a piece at a time.
-use Rattle.std.proofs.Common.{ℕ, ◌+◌, ◌-◌, List, [], ◌++◌, length, take, drop, Option, Some, None, refl, sym, ap, ◌∙◌, append_assoc, append-nil, take-add, Result, Ok, Err, OnErr}
+use Rattle.std.proofs.Common.{ℕ, ◌+◌, ◌-◌, List, [], ◌++◌, length, take, drop, Option, Some, None, refl, sym, ap, ◌∙◌, append_assoc, append-nil, take-add, ◌≤◌, arith, Result, Ok, Err, OnErr}
 use Rattle.std.specs.Io.KnownBytes.{Appends, Keeps, Consumes}
 use Rattle.std.proofs.lemmas.List.{take_rest, take-append-drop}
-use Rattle.use_shell.specs.Endings.{AppendsFront}
+use Rattle.use_shell.specs.Output.{max_input, max_piece}
+use Rattle.use_shell.specs.Endings.{AppendsFront, IsBounded}
 
 pub appends_then : (a b c : Option (List ℕ)) (xs ys : List ℕ) → Appends a b xs → Appends b c ys → Appends a c (xs ++ ys)
 appends_then None b c xs ys h k = tt
@@ -75,3 +76,6 @@ consumes_kept None b c xs h k = tt
 consumes_kept (Some x) None c xs h k = absurd h
 consumes_kept (Some x) (Some y) None xs h k = absurd k
 consumes_kept (Some x) (Some y) (Some z) xs h k = h ∙ ap (λ l. xs ++ l) (sym k)
+
+pub nothing_taken : (a : Option (List ℕ)) → IsBounded a a
+nothing_taken a = record { taken = []; from = consumes_nothing a; short = omega arith }

@@ -8,8 +8,8 @@ use Rattle.use_shell.specs.declared.status.Status.{Status}
 use Rattle.use_shell.specs.declared.status.Status.TheVariants.{Done, TooLong, Strict}
 use Rattle.use_shell.specs.declared.stop.Stop.{Stop}
 use Rattle.use_shell.specs.declared.stop.Stop.TheVariants.{Memory as Wanting}
-use Rattle.use_shell.specs.Output.{Ending, Setting, ending, max_input, of_input, is_too_long, play_from, play_within, read, read_status}
-use Rattle.use_shell.specs.Endings.{AnswersTaken, AppendsFront, EndsWith, IsReadOut, IsTaken, IsLong}
+use Rattle.use_shell.specs.Output.{Ending, Setting, ending, max_input, max_piece, of_input, is_too_long, play_from, play_within, read, read_status}
+use Rattle.use_shell.specs.Endings.{AnswersTaken, AppendsFront, EndsWith, IsBounded, IsReadOut, IsTaken, IsLong}
 use Rattle.use_shell.specs.Finishes.{CommandsEnd, IsPlayed}
 use Rattle.use_shell.specs.Plays.{IsCutOff, IsEnded, IsHalted, IsPast, IsWhole, Streams, given}
 use Rattle.use_shell.proofs.LimitLemmas.{over_ending, past_ending, whole_ending, within_more}
@@ -99,9 +99,14 @@ module _ (files : Option Files) (p : ProgramParts) (echo strict : Bool) (held : 
   abbrev s : Files → Setting
   s o = given p echo strict o
 
+  to_end : (left now old new : Option (List ℕ)) (u w : ℕ) (failed : Bool) → IsWhole files s max_input failed left now old new u w
+      → IsTaken left now (s held)
+  to_end left now old new u w failed h = inl (record { taken = h.taken; from = h.from; end = h.end; goes_on = h.goes_on held told })
+
   whole_run : (left now old new : Option (List ℕ)) (u w : ℕ) (failed : Bool) (status : Status) → status ≡ read_status strict failed
       → IsWhole files s max_input failed left now old new u w → CommandsEnd left now old new u w (Ok status) (s held)
-  whole_run None now old new u w failed status is h = untold (s held) now old new u w status (λ k. inl h.end)
+  whole_run None now old new u w failed status is h =
+      untold (s held) now old new u w status (λ k. to_end None now old new u w failed h)
   whole_run (Some input) None old new u w failed status is h = absurd h.from
   whole_run (Some input) (Some ys) old new u w failed status is h =
       let done = h.wrote held told in
@@ -109,7 +114,8 @@ module _ (files : Option Files) (p : ProgramParts) (echo strict : Bool) (held : 
       let all : h.taken ≡ input = sym (h.from ∙ ap (λ l. h.taken ++ l) h.end ∙ append-nil h.taken) in
       by_ending (s held) input (Some ys) old new u w (read (s held) q) status
       (sym (whole_ending (s held) max_input h.taken h.within) ∙ ap (of_input (s held)) all)
-      (ap (read_status strict) (sym done.same) ∙ sym is) done.written done.units (λ k. inl h.end)
+      (ap (read_status strict) (sym done.same) ∙ sym is) done.written done.units
+      (λ k. to_end (Some input) (Some ys) old new u w failed h)
 
   ended_run : StaysEnded → (left now old new : Option (List ℕ)) (u w : ℕ) (failed : Bool) (status : Status) → status ≡ read_status strict failed
       → IsEnded files s max_input failed left now old new u w → CommandsEnd left now old new u w (Ok status) (s held)
@@ -120,6 +126,7 @@ module _ (files : Option Files) (p : ProgramParts) (echo strict : Bool) (held : 
         front = h.front;
         rest = h.rest;
         taken = h.taken;
+        short = h.short;
         goes_on = over.goes_on;
         over = over.over;
       }))
@@ -135,6 +142,7 @@ module _ (files : Option Files) (p : ProgramParts) (echo strict : Bool) (held : 
         front = h.front;
         rest = h.rest;
         taken = h.taken;
+        short = h.short;
         goes_on = over.goes_on;
         over = over.over;
       }))
@@ -180,7 +188,8 @@ module _ (files : Option Files) (p : ProgramParts) (echo strict : Bool) (held : 
 
   pub answers_taken : (left now old new : Option (List ℕ)) (u w : ℕ) → IsCutOff files s max_input left now old new u w
       → AnswersTaken left now old new (s held)
-  answers_taken left now old new u w h = record { taken = h.taken; from = h.from; written = (h.answered held told).written }
+  answers_taken left now old new u w h =
+      let done = h.answered held told in record { taken = h.taken; from = h.from; goes_on = done.goes_on; written = done.written }
 
 -- what is known of every run
 read_played : (strict failed : Bool) → IsPlayed (read_status strict failed)
@@ -214,3 +223,16 @@ module _ (files : Option Files) (s : Files → Setting) (strict : Bool) (left no
   run_long (Ok status) h =
       ⊎_elim (λ k is. absurd (read_is_short strict k.0 (sym k.1 ∙ is))) (λ k is. long_of left now k.1) h
   run_long (Err stop) h = tt
+
+  ended_bounded : (failed : Bool) → IsEnded files s max_input failed left now old new u w → IsBounded left now
+  ended_bounded failed h = record {
+    taken = h.before ++ (h.front ++ h.rest);
+    from = h.taken;
+    short = omega (arith, h.within, h.short, length-append h.before (h.front ++ h.rest), length-append h.before h.front);
+  }
+
+  pub run_bounded : (r : Result Status Stop) → Streams files s strict max_input left now old new u w r → IsBounded left now
+  run_bounded (Ok status) h =
+      ⊎_elim (λ k. ⊎_elim (λ x. record { taken = x.taken; from = x.from; short = omega (arith, x.within) }) (ended_bounded k.0) k.2)
+      (λ k. record { taken = k.1.taken; from = k.1.from; short = k.1.short }) h
+  run_bounded (Err stop) h = record { taken = h.taken; from = h.from; short = h.short }

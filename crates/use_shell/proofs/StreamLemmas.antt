@@ -16,7 +16,7 @@ use Rattle.use_shell.specs.declared.status.Status.{Status}
 use Rattle.use_shell.specs.declared.status.Status.TheVariants.{TooLong}
 use Rattle.use_shell.specs.declared.stop.Stop.{Stop}
 use Rattle.use_shell.specs.declared.stop.Stop.TheVariants.{Memory as Wanting}
-use Rattle.use_shell.specs.Output.{Ending, Played, Setting, commands_in, max_files, of_input_within, play, play_from, play_within, read, read_status}
+use Rattle.use_shell.specs.Output.{Ending, Played, Setting, commands_in, max_files, max_piece, of_input_within, play, play_from, play_within, read, read_status}
 use Rattle.use_shell.specs.Endings.{AppendsFront}
 use Rattle.use_shell.specs.Plays.{HasCome, IsCutOff, IsFrontOf, IsHalted, IsStopped, IsStreaming, Plays, Puts, Streams, Wrote, given}
 use Rattle.use_shell.proofs.MoveLemmas.{front_of_none, consumes_then, consumes_kept, consumes_nothing}
@@ -76,6 +76,7 @@ module _ (files : Option Files) (p : ProgramParts) (echo strict : Bool) where
         answered = λ held told.
             let done = wrote (play_from (s held) (ended at.taken)) was player old a u v none passed empty (at.played held told).come in
             record {
+              goes_on = (at.played held told).goes_on;
               written = subst (λ x. Appends old x (play_from (s held) (ended at.taken)).bytes) same done.written;
               units = sym counted ∙ done.units;
             };
@@ -103,6 +104,7 @@ module _ (files : Option Files) (p : ProgramParts) (echo strict : Bool) where
             from = whole_from;
             end = end;
             within = omega (arith, at.counted);
+            goes_on = λ held told. (at.played held told).goes_on;
             wrote = λ held told.
                 let so_far = at.played held told in
                 let come = last held told at.taken last_commands.0 so_far.stands last_is in
@@ -126,6 +128,7 @@ module _ (files : Option Files) (p : ProgramParts) (echo strict : Bool) where
         halted_at_end w stop last = record {
           taken = at.taken;
           from = whole_from;
+          short = omega (arith, at.counted);
           front = λ held told rest is.
               let so_far = at.played held told in
               let ends = last held told at.taken last_commands.0 so_far.stands last_is in
@@ -137,7 +140,7 @@ module _ (files : Option Files) (p : ProgramParts) (echo strict : Bool) where
 
       -- a piece was taken, and of it so many bytes are played
       module _ (stays : StaysEnded) (buf : List ℕ) (count within : ℕ) (now b : Option (List ℕ)) (from : Consumes mid now (take count buf))
-          (fits : count ≤ length buf) (is : within ≡ min count (limit - n)) where
+          (fits : count ≤ length buf) (is : within ≡ min count (limit - n)) (size : length buf ≤ max_piece) where
         abbrev piece : List ℕ
         piece = take within buf
 
@@ -149,6 +152,12 @@ module _ (files : Option Files) (p : ProgramParts) (echo strict : Bool) where
 
         piece_length : length piece ≡ within
         piece_length = length-take-le within buf (omega arith)
+
+        part_short : length (piece ++ rest_of_piece) ≤ max_piece
+        part_short = omega (arith, ap length parted, length-take-le count buf fits, size)
+
+        taken_short : length (at.taken ++ (piece ++ rest_of_piece)) ≤ limit + max_piece
+        taken_short = omega (arith, at.counted, part_short, length-append at.taken (piece ++ rest_of_piece))
 
         all_from : Consumes left now (at.taken ++ (piece ++ rest_of_piece))
         all_from = subst (λ l. Consumes left now (at.taken ++ l)) parted (consumes_then left mid now at.taken (take count buf) at.from from)
@@ -183,6 +192,7 @@ module _ (files : Option Files) (p : ProgramParts) (echo strict : Bool) where
             rest = rest_of_piece;
             taken = all_from;
             within = short;
+            short = part_short;
             over = λ held told.
                 let all = all_plays next w (Ok true) on held told in
                 record {
@@ -208,6 +218,7 @@ module _ (files : Option Files) (p : ProgramParts) (echo strict : Bool) where
                 taken = at.taken ++ (piece ++ rest_of_piece);
                 from = all_from;
                 past = omega (arith, at.counted, ap length parted, length-take-le count buf fits, length-append at.taken (piece ++ rest_of_piece));
+                short = taken_short;
                 goes = λ held told.
                     let done = all_plays next w (Ok false) on held told in
                     let played : play_within (s held) limit (at.taken ++ (piece ++ rest_of_piece)) ≡ play_from (s held) (ended (at.taken ++ piece))
@@ -228,6 +239,7 @@ module _ (files : Option Files) (p : ProgramParts) (echo strict : Bool) where
         halted_in w stop on = record {
           taken = at.taken ++ (piece ++ rest_of_piece);
           from = all_from;
+          short = taken_short;
           front = λ held told rest is.
               let so_far = at.played held told in
               let all : (at.taken ++ (piece ++ rest_of_piece)) ++ rest ≡ (at.taken ++ piece) ++ (rest_of_piece
@@ -269,6 +281,7 @@ module _ (files : Option Files) (p : ProgramParts) (echo strict : Bool) where
   cut_halted stays limit left now old new u w stop h = record {
     taken = h.taken;
     from = h.from;
+    short = omega (arith, h.within);
     front = λ held told rest is.
         let more = fronted (s held) stays limit h.taken rest h.within in
         let k : IsStopped (play_from (s held) (ended h.taken)) [] old new u w stop = record {
@@ -295,6 +308,7 @@ module _ (files : Option Files) (p : ProgramParts) (echo strict : Bool) where
       subst (Streams files s strict limit left left old old u u) (sym is) (record {
         taken = [];
         from = consumes_nothing left;
+        short = omega arith;
         front = λ held told rest is. record { front = front_of_none old (of_input_within (s held) limit rest).bytes; units = inl refl };
       })
 

@@ -7,7 +7,7 @@ use Rattle.use_io.specs.Shelves.{Files}
 use Rattle.use_text.specs.Cuts.{cuts, ended}
 use Rattle.use_shell.specs.declared.status.Status.{Status}
 use Rattle.use_shell.specs.declared.status.Status.TheVariants.{Done, Usage, ModelRefused, ReadFault, WriteFault, Memory, Strict}
-use Rattle.use_shell.specs.Output.{Ending, Setting, budget, is_too_long, max_input, output, play_from, refusal_for, setting_for}
+use Rattle.use_shell.specs.Output.{Ending, Setting, budget, is_too_long, max_input, max_piece, output, play_from, refusal_for, setting_for}
 use Rattle.use_shell.specs.Words.{wanted}
 
 -- a front of the bytes was written
@@ -117,23 +117,37 @@ IsComplete e status = (status ≡ e.status) ⊎ (status ≡ Memory)
 abbrev pub RunIsComplete : List (List ℕ) → Option Files → Option (List ℕ) → Status → Type 0
 RunIsComplete words files left status = IfSome files (λ held. IfSome left (λ input. IsComplete (output words held input) status))
 
--- The source was taken to its end, or through the piece in which the command ends that ended the run. `before` is what was taken before
--- that piece.
+-- The source was taken to its end, and no command that ends in it ended the run.
+pub record TakenToEnd (s : Setting) (left now : Option (List ℕ)) : Type 0 where
+  pub taken : List ℕ
+  pub from : Consumes left now taken
+  pub end : IsAtEnd now
+  pub goes_on : (play_from s (ended taken)).over ≡ false
+
+-- The source was taken through the piece in which the command ends that ended the run. `before` is what was taken before that piece.
 pub record TakenByCommand (s : Setting) (left now : Option (List ℕ)) : Type 0 where
   pub before : List ℕ
   pub front : List ℕ
   pub rest : List ℕ
   pub taken : Consumes left now (before ++ (front ++ rest))
+  pub short : length (front ++ rest) ≤ max_piece
   pub goes_on : (play_from s (ended before)).over ≡ false
   pub over : (play_from s (ended (before ++ front))).over ≡ true
 
 abbrev pub IsTaken : Option (List ℕ) → Option (List ℕ) → Setting → Type 0
-IsTaken left now s = IsAtEnd now ⊎ TakenByCommand s left now
+IsTaken left now s = TakenToEnd s left now ⊎ TakenByCommand s left now
 
--- The source failed: what was written are the answers to the commands that end in the bytes that were taken.
+-- no more was taken of the source than the longest input and one piece
+pub record IsBounded (left now : Option (List ℕ)) : Type 0 where
+  pub taken : List ℕ
+  pub from : Consumes left now taken
+  pub short : length taken ≤ max_input + max_piece
+
+-- The source failed: what was written are the answers to the commands that end in the bytes that were taken, and none of these ended the run.
 pub record AnswersTaken (left now old new : Option (List ℕ)) (s : Setting) : Type 0 where
   pub taken : List ℕ
   pub from : Consumes left now taken
+  pub goes_on : (play_from s (ended taken)).over ≡ false
   pub written : Appends old new (play_from s (ended taken)).bytes
 
 -- the source is as it was, where the words or the model are refused

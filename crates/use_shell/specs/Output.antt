@@ -28,6 +28,10 @@ use Rattle.use_shell.specs.Words.{wanted}
 abbrev pub max_input : ℕ
 max_input = 16777216
 
+-- the most bytes that are taken of it at once
+abbrev pub max_piece : ℕ
+max_piece = 4096
+
 abbrev pub max_file : ℕ
 max_file = 4194304
 

@@ -14,7 +14,7 @@ use Rattle.use_shell.specs.declared.status.Status.{Status}
 use Rattle.use_shell.specs.declared.status.Status.TheVariants.{TooLong}
 use Rattle.use_shell.specs.declared.stop.Stop.{Stop}
 use Rattle.use_shell.specs.declared.stop.Stop.TheVariants.{Memory}
-use Rattle.use_shell.specs.Output.{Ending, Played, Setting, after, of_input_within, play, play_from, play_within, read_status}
+use Rattle.use_shell.specs.Output.{Ending, Played, Setting, after, max_piece, of_input_within, play, play_from, play_within, read_status}
 use Rattle.use_shell.specs.Endings.{AppendsFront}
 
 -- bytes were answered: of those that waited and these, some were written, and the others wait
@@ -74,6 +74,7 @@ pub record IsWhole (files : Option Files) (s : Files → Setting) (limit : ℕ) 
   pub from : Consumes left now taken
   pub end : IsAtEnd now
   pub within : length taken ≤ limit
+  pub goes_on : ForSome files (λ held. (play_from (s held) (ended taken)).over ≡ false)
   pub wrote : ForSome files (λ held. Wrote (play_from (s held) (cuts taken)) failed old new steps steps')
 
 -- the commands that end in a front of the last piece have ended the run
@@ -89,6 +90,7 @@ pub record IsEnded (files : Option Files) (s : Files → Setting) (limit : ℕ) 
   pub rest : List ℕ
   pub taken : Consumes left now (before ++ (front ++ rest))
   pub within : length (before ++ front) ≤ limit
+  pub short : length (front ++ rest) ≤ max_piece
   pub over : ForSome files (λ held. IsOver (s held) failed before front old new steps steps')
 
 -- the commands that end within the limit have not ended the run
@@ -102,10 +104,12 @@ pub record IsPast (files : Option Files) (s : Files → Setting) (limit : ℕ) (
   pub taken : List ℕ
   pub from : Consumes left now taken
   pub past : limit < length taken
+  pub short : length taken ≤ limit + max_piece
   pub goes : ForSome files (λ held. GoesPast (s held) limit taken old new steps steps')
 
 -- a source was played as far as it could be read
 pub record AnswersEnded (s : Setting) (taken : List ℕ) (old new : Option (List ℕ)) (steps steps' : ℕ) : Type 0 where
+  pub goes_on : (play_from s (ended taken)).over ≡ false
   pub written : Appends old new (play_from s (ended taken)).bytes
   pub units : steps' ≡ steps + (play_from s (ended taken)).units
 
@@ -123,6 +127,7 @@ pub record IsFrontOf (e : Ending) (old new : Option (List ℕ)) (steps steps' : 
 pub record IsHalted (files : Option Files) (s : Files → Setting) (limit : ℕ) (left now old new : Option (List ℕ)) (steps steps' : ℕ) (stop : Stop) : Type 0 where
   pub taken : List ℕ
   pub from : Consumes left now taken
+  pub short : length taken ≤ limit + max_piece
   pub front : ForSome files (λ held. (rest : List ℕ) → now ≡ Some rest → IsFrontOf (of_input_within (s held) limit (taken ++ rest)) old new steps steps' stop)
 
 -- so many bytes were taken, and what ends in them was played

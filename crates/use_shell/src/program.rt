@@ -5,7 +5,7 @@ ghost use Rattle.use_io.specs.Causes.{Rose};
 ghost use Rattle.use_syntax.specs.Language.{language};
 ghost use Rattle.use_words.specs.CommandLine.{fits, usage_line, words_of};
 ghost use Rattle.use_session.specs.Answers.{refusal_line};
-ghost use Rattle.use_shell.specs.Endings.{AnswersTaken, AppendsFront, HasModelCause, HasNotFailed, HasStrictCause, HasUsageCause, IsLong, IsReadOut, IsTaken, IsTooLong, IsWithinBudget, IsWithinLimit, LeavesSource, NoneRose, RunEnds, RunIsComplete, WhereTold};
+ghost use Rattle.use_shell.specs.Endings.{AnswersTaken, AppendsFront, HasModelCause, HasNotFailed, HasStrictCause, HasUsageCause, IsBounded, IsLong, IsReadOut, IsTaken, IsTooLong, IsWithinBudget, IsWithinLimit, LeavesSource, NoneRose, RunEnds, RunIsComplete, WhereTold};
 ghost use Rattle.use_shell.specs.Finishes.{CommandsEnd, IsFinal, IsPlayed, RunFinishes, RunStops, StopsByModel, StopsByShelf, StopsByUsage, StopsUntouched};
 ghost use Rattle.use_shell.specs.Output.{max_files};
 ghost use Rattle.use_shell.specs.Plays.{given};
@@ -96,6 +96,7 @@ fn play_commands<F: Shelf, S: Source, K: Sink, L: Ledger>(
     requires files { manner.files ≡ max_files }
     ensures told { ForSome (F.files shelf.old) (λ held. CommandsEnd (S.left source.old) (S.left source.new) (K.written sink.old) (K.written sink.new)
         steps.old steps.new result (given program manner.echo manner.strict held)) }
+    ensures bounded { IsBounded (S.left source.old) (S.left source.new) }
     ensures played { IfOk result IsPlayed }
     ensures long { IfOk result (λ status. status ≡ Status.TooLong → IsLong (S.left source.old)) }
     ensures strict { IfOk result (λ status. status ≡ Status.Strict → manner.strict ≡ true) }
@@ -112,6 +113,7 @@ fn play_commands<F: Shelf, S: Source, K: Sink, L: Ledger>(
 }
 
 /// Plays the words, and tells how the run ended, or what stopped it.
+#[tactic(auto, using(crate::proofs::MoveLemmas::nothing_taken))]
 fn play_words<F: Shelf, S: Source, K: Sink, L: Ledger>(
     alloc: Global,
     words: &[String],
@@ -124,6 +126,7 @@ fn play_words<F: Shelf, S: Source, K: Sink, L: Ledger>(
     ensures usage { StopsByUsage (words_of words.now) result }
     ensures model { IfSome (F.files shelf.old) (StopsByModel (words_of words.now) result) }
     ensures status { IfOk result IsFinal }
+    ensures bounded { IsBounded (S.left source.old) (S.left source.new) }
     ensures stops { RunStops (words_of words.now) (F.files shelf.old) (S.left source.old) (S.left source.new) result }
     ensures untouched { StopsUntouched (words_of words.now) (F.files shelf.old) (source.new ≡ source.old) result }
     ensures fault { IsErrOf result Stop.Read → ¬ Rose (F.faults shelf.old) (F.faults shelf.new)
@@ -162,11 +165,13 @@ pub fn run<F: Shelf, S: Source, K: Sink, L: Ledger>(
     // is the output's; or a fault came, and they grew by a front of it.
     ensures bytes { RunEnds (words_of words.now) (F.files shelf.old) (S.left source.old) (K.written sink.old) (K.written sink.new) result }
 
-    // What was taken: all, or through the piece whose command ended the run; and nothing where the words or the model are refused.
+    // What was taken: all, where no command ended the run before, or through the piece whose command ended the run; and nothing where the
+    // words or the model are refused. However the run ends, no more was taken than the longest input and a piece.
     ensures taken { IsReadOut result → WhereTold (words_of words.now) (F.files shelf.old) (IsTaken (S.left source.old) (S.left source.new)) }
+    ensures bounded { IsBounded (S.left source.old) (S.left source.new) }
     ensures untouched { LeavesSource (words_of words.now) (F.files shelf.old) result (source.new ≡ source.old) }
 
-    // Where the source failed, every command that ended in what was taken is answered, and nothing else.
+    // Where the source failed, every command that ended in what was taken is answered, and nothing else, and none of them ended the run.
     ensures fault { result ≡ Status.ReadFault → ¬ Rose (F.faults shelf.old) (F.faults shelf.new)
         → WhereTold (words_of words.now) (F.files shelf.old) (AnswersTaken (S.left source.old) (S.left source.new) (K.written sink.old) (K.written sink.new)) }
 

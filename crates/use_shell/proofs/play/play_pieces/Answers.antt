@@ -12,6 +12,7 @@ pieces-init g c = record {
   at = started (g.F.Shelf.files c.args.shelf.now) (machine_in c.args.player.now.session).program c.args.manner.echo c.args.manner.strict c.args.player.now c.args.cutter.now
       (g.S.Source.left c.args.source.now) (g.K.Sink.written c.args.sink.now) c.args.steps.now c.requires.stands c.requires.machine;
   within = omega arith;
+  size = search rules;
   ready = c.requires.ready;
   clean = c.requires.written;
   waiting = c.requires.waiting;
@@ -66,7 +67,7 @@ returns-in_err-play_taken-clause-played g c =
     halted_streams (g.F.Shelf.files c.args.shelf.now) (machine_in c.args.player.now.session).program c.args.manner.echo c.args.manner.strict c.args.limit _ _ _ _ _ _
     c.from_residual-in_err-play_taken.result c.in_err-play_taken.field-0.0
     (halted_in (g.F.Shelf.files c.args.shelf.now) (machine_in c.args.player.now.session).program c.args.manner.echo c.args.manner.strict c.args.limit c.pieces.taken c.args.player.now c.pieces.player c.pieces.cutter
-    _ _ _ _ _ _ c.pieces.invariant.at c.pieces.invariant.within c.requires.written c.requires.passed c.requires.stays c.take_piece.new.piece c.in_ok-count.count c.min-within.result _ _ c.in_ok-count.ensures.bytes.0 c.in_ok-count.ensures.bound.0 c.min-within.ensures _ _
+    _ _ _ _ _ _ c.pieces.invariant.at c.pieces.invariant.within c.requires.written c.requires.passed c.requires.stays c.take_piece.new.piece c.in_ok-count.count c.min-within.result _ _ c.in_ok-count.ensures.bytes.0 c.in_ok-count.ensures.bound.0 c.min-within.ensures (omega (arith, c.take_piece.auto.piece, c.pieces.invariant.size)) _ _
     (λ held told bytes more stands is.
     rw c.requires.files at (c.in_err-play_taken.ensures.plays held (still _ _ held c.pieces.invariant.files told) bytes more stands is))) (search rules)
 
@@ -78,14 +79,14 @@ returns-in_err-play_taken-clause-cut_off g c is none =
 pub returns-then-branch-clause-played : goal.returns-then-branch-clause-played
 returns-then-branch-clause-played g c =
     ended_in (g.F.Shelf.files c.args.shelf.now) (machine_in c.args.player.now.session).program c.args.manner.echo c.args.manner.strict c.args.limit c.pieces.taken c.args.player.now c.pieces.player c.pieces.cutter
-    _ _ _ _ _ _ c.pieces.invariant.at c.pieces.invariant.within c.requires.written c.requires.passed c.requires.stays c.take_piece.new.piece c.in_ok-count.count c.min-within.result _ _ c.in_ok-count.ensures.bytes.0 c.in_ok-count.ensures.bound.0 c.min-within.ensures
+    _ _ _ _ _ _ c.pieces.invariant.at c.pieces.invariant.within c.requires.written c.requires.passed c.requires.stays c.take_piece.new.piece c.in_ok-count.count c.min-within.result _ _ c.in_ok-count.ensures.bytes.0 c.in_ok-count.ensures.bound.0 c.min-within.ensures (omega (arith, c.take_piece.auto.piece, c.pieces.invariant.size))
     c.play_taken.new.player _ c.status-then-branch.result c.status-then-branch.ensures c.in_ok-play_taken.ensures.written (λ held told bytes more stands is.
     rw (c.requires.files, c.if-branch.true) at (c.in_ok-play_taken.ensures.plays held (still _ _ held c.pieces.invariant.files told) bytes more stands is))
 
 pub returns-then-within-count-clause-played : goal.returns-then-within-count-clause-played
 returns-then-within-count-clause-played g c =
     past (g.F.Shelf.files c.args.shelf.now) (machine_in c.args.player.now.session).program c.args.manner.echo c.args.manner.strict c.args.limit c.pieces.taken c.args.player.now c.pieces.player c.pieces.cutter
-    _ _ _ _ _ _ c.pieces.invariant.at c.pieces.invariant.within c.requires.written c.requires.passed c.requires.stays c.take_piece.new.piece c.in_ok-count.count c.min-within.result _ _ c.in_ok-count.ensures.bytes.0 c.in_ok-count.ensures.bound.0 c.min-within.ensures
+    _ _ _ _ _ _ c.pieces.invariant.at c.pieces.invariant.within c.requires.written c.requires.passed c.requires.stays c.take_piece.new.piece c.in_ok-count.count c.min-within.result _ _ c.in_ok-count.ensures.bytes.0 c.in_ok-count.ensures.bound.0 c.min-within.ensures (omega (arith, c.take_piece.auto.piece, c.pieces.invariant.size))
     c.play_taken.new.player _ c.in_ok-play_taken.ensures.written (λ held told bytes more stands is.
     rw (c.requires.files, c.if-branch.false) at (c.in_ok-play_taken.ensures.plays held (still _ _ held c.pieces.invariant.files told) bytes more stands is)) c.if-within-count.true
 
@@ -94,11 +95,12 @@ pieces-preserved g c =
     let so_far = c.pieces.invariant in
     record {
       at = goes_on (g.F.Shelf.files c.args.shelf.now) (machine_in c.args.player.now.session).program c.args.manner.echo c.args.manner.strict c.args.limit c.pieces.taken c.args.player.now c.pieces.player c.pieces.cutter
-          _ _ _ _ _ _ c.pieces.invariant.at c.pieces.invariant.within c.requires.written c.requires.passed c.requires.stays c.take_piece.new.piece c.in_ok-count.count c.min-within.result _ _ c.in_ok-count.ensures.bytes.0 c.in_ok-count.ensures.bound.0 c.min-within.ensures
+          _ _ _ _ _ _ c.pieces.invariant.at c.pieces.invariant.within c.requires.written c.requires.passed c.requires.stays c.take_piece.new.piece c.in_ok-count.count c.min-within.result _ _ c.in_ok-count.ensures.bytes.0 c.in_ok-count.ensures.bound.0 c.min-within.ensures (omega (arith, c.take_piece.auto.piece, c.pieces.invariant.size))
           c.play_taken.new.player _ c.play_taken.new.cutter c.in_ok-play_taken.ensures.stands
           (λ held told bytes more stands is.
           rw (c.requires.files, c.if-branch.false) at (c.in_ok-play_taken.ensures.plays held (still _ _ held c.pieces.invariant.files told) bytes more stands is)) c.if-within-count.false;
       within = omega (arith, c.min-within.ensures, c.if-within-count.false, so_far.within);
+      size = omega (arith, c.take_piece.auto.piece, so_far.size);
       ready = c.in_ok-play_taken.ensures.ready;
       clean = c.in_ok-play_taken.ensures.written;
       waiting = c.in_ok-play_taken.ensures.waiting c.if-branch.false;

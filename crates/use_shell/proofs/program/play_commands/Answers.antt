@@ -1,5 +1,5 @@
 use Rattle.use_shell.specs.Plays.{given}
-use Rattle.use_shell.proofs.SourceLemmas.{answers_taken, commands_end, run_long, run_played, run_strict}
+use Rattle.use_shell.proofs.SourceLemmas.{answers_taken, commands_end, run_bounded, run_long, run_played, run_strict}
 use Rattle.use_shell.proofs.program.play_commands.Goals as goal
 
 pub returns-clause-told : goal.returns-clause-told
@@ -10,6 +10,11 @@ returns-clause-told g c held told =
 pub returns-clause-played : goal.returns-clause-played
 returns-clause-played g c =
     run_played (g.F.Shelf.files c.args.shelf.now) (given c.args.program c.args.manner.echo c.args.manner.strict) c.args.manner.strict _ _ _ _ _ _
+    c.play_source.result c.play_source.ensures.played
+
+pub returns-clause-bounded : goal.returns-clause-bounded
+returns-clause-bounded g c =
+    run_bounded (g.F.Shelf.files c.args.shelf.now) (given c.args.program c.args.manner.echo c.args.manner.strict) c.args.manner.strict _ _ _ _ _ _
     c.play_source.result c.play_source.ensures.played
 
 pub returns-clause-long : goal.returns-clause-long
