@@ -18,3 +18,4 @@ pub mod Unfitness
 pub mod Yield
 pub mod Certified
 pub mod Reaching
+pub mod Ending

@@ -298,16 +298,6 @@ fails_all g ks (Deep x) trees stack rest t at done z s same m = sym same ∙ ap 
     ∙ ap (λ (a : Answer). outcome_of a) (tasks-snoc g ks rest t at done 0) ∙ stop_some (task g ks t at done 0) (λ to more m. tasks g ks rest to more m)
     (Outcome.deep x) tt m
 
-pub none_left : (l : List Task) → length l ≡ 0 → l ≡ []
-none_left [] e = refl
-none_left (t ∷ ts) e = absurd (omega arith)
-
--- what comes next is among what is left
-pub taken : (r : Option Task) (old new : List Task) (next : Option Task) → MatchOption r (left old next ≡ []) (λ t. left old next ≡ new ++ (t ∷ []))
-    → MatchOption r (new ≡ []) (λ t. ⊤) → (left old next ≡ left new r) × (r ≡ None → new ≡ [])
-taken None old new next h k = (rw k h, λ e. k)
-taken (Some t) old new next h k = (h, λ e. absurd (cc))
-
 -- one step: the outcome stays, and fewer steps are to come
 pub one_step : (g : Table) (ks : List ℕ) (stack rest new : List Task) (t : Task) (at to : ℕ) (done more : List ParseTree) → stack ≡ rest ++ (t ∷ [])
     → Counted g ks new to more (then_at (task g ks t at done 0) (λ x l i. tasks g ks rest x l i))

@@ -1,5 +1,5 @@
 -- What is still to be done: a stack of tasks, the next one last. Only proofs use these words.
-use Rattle.std.specs.Prelude.{◌≡◌, ℕ, ◌<◌, Bool, true, false, if◌then◌else◌, List, [], ◌∷◌, ◌++◌, length, map, suc, slice_get, Option, Some, None, option_to_list, Result, Ok, Err}
+use Rattle.std.specs.Prelude.{◌≡◌, ℕ, ◌<◌, ◌≤◌, Bool, true, false, if◌then◌else◌, List, [], ◌∷◌, ◌++◌, length, map, suc, slice_get, Option, Some, None, option_to_list, Result, Ok, Err}
 use Rattle.grammar_core.specs.declared.table.Table.{Table}
 use Rattle.grammar_core.specs.declared.fault.ParseFault.{ParseFault}
 use Rattle.grammar_core.specs.declared.fault.ParseFault.TheVariants.{Memory, Stuck, Deep}
@@ -14,7 +14,7 @@ use Rattle.grammar_core.specs.declared.machine.Task.TheVariants.{Read, Close, Re
 use Rattle.grammar_core.specs.declared.machine.Work.{Work}
 use Rattle.grammar_core.specs.Trees.{ParseTree}
 use Rattle.grammar_core.specs.Arena.{closed, read_trees}
-use Rattle.grammar_core.specs.Derives.{Outcome}
+use Rattle.grammar_core.specs.Derives.{Outcome, begins}
 use Rattle.grammar_core.specs.Answers.{Answer, ends, stuck, deep, spent, Reading, then_at, of_production, whole, outcome_of}
 
 abbrev pub steps_of : Answer → ℕ
@@ -45,6 +45,10 @@ reads level ps = map (λ p. Read p level) ps
 -- the production of this number is a repetition
 abbrev pub IsStar : Table → ℕ → Type 0
 IsStar g p = is_star (slice_get g.prods p) ≡ true
+
+-- it goes on no more at a place
+abbrev pub Ends : Table → List ℕ → ℕ → ℕ → Type 0
+Ends g ks p at = (firsts : List ℕ) (q : ℕ) → slice_get g.prods p ≡ Some (Star firsts q) → begins ks at firsts ≡ false
 
 abbrev pub IsTask : Table → Task → Type 0
 IsTask g (Read p level) = p < length g.prods
@@ -96,3 +100,9 @@ Stepped g ks (Ok done) old new a =
     Counted g ks (left new.stack.items done.next) done.at (read_trees new.built) (then_at a (λ at so_far n. tasks g ks old.stack.items at so_far n))
     × AreTasks g (left new.stack.items done.next)
 Stepped g ks (Err e) old new a = Meets (Err e) (read_trees new.built) a
+
+-- rules were ended at a place: other tasks are left, with the same outcome in no more steps
+pub record Ended (g : Table) (ks : List ℕ) (old new : List Task) (at : ℕ) (before after : List ParseTree) : Type 0 where
+  pub same : outcome_of (tasks g ks new at after 0) ≡ outcome_of (tasks g ks old at before 0)
+  pub steps : steps_of (tasks g ks new at after 0) ≤ steps_of (tasks g ks old at before 0)
+  pub all : AreTasks g new

@@ -59,6 +59,7 @@ impl Builder {
     }
 
     /// Puts the trees from `start` on below a rule.
+    #[inline]
     pub(crate) fn close(&mut self, rule: u16, start: u64) -> Result<(), ParseFault>
         ensures { MatchResult result (λ u. read_trees self.new ≡ closed rule start (read_trees self.old)) (λ e. e ≡ ParseFault.Memory) }
     {
@@ -80,6 +81,7 @@ impl Builder {
     }
 
     /// Puts the last tree below a rule, as most rules have one part. The rule takes its place.
+    #[inline]
     fn close_one(&mut self, rule: u16, at: usize) -> Result<(), ParseFault>
         requires { at + 1 ≡ length self.old.waiting }
         ensures { MatchResult result (λ u. read_trees self.new ≡ closed rule at (read_trees self.old)) (λ e. e ≡ ParseFault.Memory) }

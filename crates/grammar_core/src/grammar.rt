@@ -167,6 +167,7 @@ impl Grammar {
     }
 
     /// Whether a production is read once more at a place.
+    #[inline]
     pub(crate) fn goes_on(&self, tokens: &[Token], at: u32, p: u16, firsts: &[u16], q: u16) -> bool
         requires { slice_get self.now.prods p ≡ Some (Star firsts.now q) }
         ensures { result ≡ begins (kinds tokens.now) at firsts.now }

@@ -1,8 +1,8 @@
-ghost use Rattle.std.specs.Prelude.{◌≡◌, ◌+◌, ◌-◌, ◌<◌, ◌^◌, ◌++◌, [], ◌∷◌, List, ℕ, length, map, reverse, MatchOption, MatchResult, Some, option_to_list, slice_get, ⊤};
+ghost use Rattle.std.specs.Prelude.{◌≡◌, ◌+◌, ◌-◌, ◌<◌, ◌^◌, ◌++◌, [], ◌∷◌, IfOk, List, ℕ, length, map, reverse, MatchResult, None, Some, option_to_list, slice_get, true};
 ghost use Rattle.grammar_core.specs.Answers.{of_production, whole};
 ghost use Rattle.grammar_core.specs.Arena.{read_trees};
 ghost use Rattle.grammar_core.specs.Derives.{kinds};
-ghost use Rattle.grammar_core.specs.Tasks.{AreTasks, Begun, IsStar, IsTask, Stepped, answer_at, reads, rule_tasks, task, Meets};
+ghost use Rattle.grammar_core.specs.Tasks.{AreTasks, Begun, Ended, Ends, IsStar, IsTask, Stepped, answer_at, left, reads, rule_tasks, task, Meets};
 ghost use Rattle.grammar_core.specs.declared.machine.Task.TheVariants.{Read, Repeat};
 ghost use Rattle.grammar_core.specs.Unfit.{IsFit};
 ghost use Rattle.grammar_core.specs.declared.table.Prod.TheVariants.{Call};
@@ -79,18 +79,6 @@ fn put_seq(stack: &mut Vec<Task>, level: u8, ps: &[u16]) -> Result<Option<Task>,
             put_all(stack, level, rest)?;
             Ok(Some(Task::Read(*first, level)))
         }
-    }
-}
-
-/// The task that comes next: this one, or the last one that is left.
-fn take_next(stack: &mut Vec<Task>, next: Option<Task>) -> Option<Task>
-    ensures task { MatchOption result (stack.old.items ++ option_to_list next ≡ [])
-        (λ task. stack.old.items ++ option_to_list next ≡ stack.new.items ++ task ∷ []) }
-    ensures none { MatchOption result (stack.new.items ≡ []) (λ task. ⊤) }
-{
-    match next {
-        Some(task) => Some(task),
-        None => stack.pop(),
     }
 }
 
@@ -296,6 +284,66 @@ fn step(
     }
 }
 
+/// Whether a rule ends here whose last part is this repetition.
+fn ends(g: &Grammar, tokens: &[Token], prod: u16, at: u32) -> bool
+    requires star { IsStar g.now prod }
+    ensures { result ≡ true → Ends g.now (kinds tokens.now) prod at }
+{
+    match g.prod(prod) {
+        Prod::Star(firsts, q) => !g.goes_on(tokens, at, prod, firsts.as_slice(), *q),
+        _ => unreachable!(),
+    }
+}
+
+/// Does the ends of rules that come next, and takes the task behind them.
+fn end_rules(
+    g: &Grammar,
+    tokens: &[Token],
+    at: u32,
+    work: &mut Work,
+) -> Result<Option<Task>, ParseFault>
+    requires fit { IsFit g.now }
+    requires all { AreTasks g.now work.old.stack.items }
+    ensures ended { MatchResult result (λ next. Ended g.now (kinds tokens.now) work.old.stack.items (left work.new.stack.items next) at
+        (read_trees work.old.built) (read_trees work.new.built)) (λ e. e ≡ ParseFault.Memory) }
+    ensures none { IfOk result (λ next. next ≡ None → work.new.stack.items ≡ []) }
+{
+    'rules: while let Some(task) = work.stack.pop() {
+        match task {
+            Task::Read(_, _) => return Ok(Some(task)),
+            Task::Close(rule, start) => {
+                work.built.close(rule, start)?;
+            }
+            Task::Repeat(prod, _, rule, start) => {
+                if !ends(g, tokens, prod, at) {
+                    return Ok(Some(task));
+                }
+                work.built.close(rule, start)?;
+            }
+        }
+    }
+    Ok(None)
+}
+
+/// The task that comes next: this one, or what is left behind the ends of rules.
+fn take_next(
+    g: &Grammar,
+    tokens: &[Token],
+    done: Done,
+    work: &mut Work,
+) -> Result<Option<Task>, ParseFault>
+    requires fit { IsFit g.now }
+    requires all { AreTasks g.now (left work.old.stack.items done.next) }
+    ensures ended { MatchResult result (λ next. Ended g.now (kinds tokens.now) (left work.old.stack.items done.next) (left work.new.stack.items next) done.at
+        (read_trees work.old.built) (read_trees work.new.built)) (λ e. e ≡ ParseFault.Memory) }
+    ensures none { IfOk result (λ next. next ≡ None → work.new.stack.items ≡ []) }
+{
+    match done.next {
+        Some(task) => Ok(Some(task)),
+        None => end_rules(g, tokens, done.at, work),
+    }
+}
+
 /// Reads a rule from the first token on, with a stack of its own, and says where it ends.
 pub(crate) fn run(
     g: &Grammar,
@@ -323,7 +371,7 @@ pub(crate) fn run(
             Err(e) => return Err(e),
         };
         at = done.at;
-        next = take_next(&mut work.stack, done.next);
+        next = take_next(g, tokens, done, work)?;
     }
     Ok(at)
 }

@@ -6,6 +6,7 @@ use crate::{Meter, States, Stop};
 use ocl_values::{Value, size};
 
 /// The value, if its size is left.
+#[inline]
 pub(crate) fn pay<S, V: States<S>>(
     states: &V,
     value: Value,

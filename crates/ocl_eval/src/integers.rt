@@ -80,6 +80,7 @@ where
     F: Fn(&Setting<'_, V>, &Expr, &mut Values, &mut Meter, &mut S) -> Result<Value, Stop>,
 {
     /// The integer that a part gives, if it is one.
+    #[inline]
     fn evaluated(
         &self,
         e: &Expr,

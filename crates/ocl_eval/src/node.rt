@@ -232,6 +232,7 @@ where
     }
 
     /// The value of a part with one more value bound, innermost.
+    #[inline]
     pub(crate) fn bound(
         &self,
         x: Value,

@@ -9,6 +9,7 @@ use ocl_scope::{
     Environment, Given, TypeArgument, bare, finds_value, implicit_call, qualified, type_named,
 };
 use std::alloc::Global;
+use use_lists::Boxed;
 
 /// A name where a type is wanted, by the type of that name.
 pub fn type_found(
@@ -39,13 +40,13 @@ pub fn named_by(
     env: &Environment,
     name: &Name,
     is_before: bool,
-    literal: &Option<Name>,
+    literal: &Option<Boxed<Name>>,
     given: Option<Given>,
 ) -> Result<Typed, TypeFault>
     ensures { Tells (named_by model.now is_post env.now name.now is_before literal.now given) result }
 {
     if let Some(literal) = literal {
-        return qualified(model, env, name, literal, is_before, given.is_some());
+        return qualified(model, env, name, literal.get(), is_before, given.is_some());
     }
     match given {
         None => bare(alloc, model, is_post, env, name, is_before),

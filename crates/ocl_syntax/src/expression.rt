@@ -10,7 +10,7 @@ use crate::forms::{
     only_literal_layer, operators_of, step_layer, steps_of,
 };
 use crate::layer::{Behind, Layer, Piece};
-use crate::made::{Made, deeper, head_place, left_out, levels_in, made_of};
+use crate::made::{Made, boxed_if, deeper, head_place, left_out, levels_in, made_of};
 use crate::plain::plain;
 use crate::tokens::{binary_operator, literal_at, place_at, place_of_mark, unary_operator};
 use std::alloc::{AllocError, Global};
@@ -67,6 +67,7 @@ fn of_bare_name(
         None => Ok(Written::TooDeep(name.place)),
         Some(_) => {
             let literal = name_if(alloc, lexed, &node.literal)?;
+            let literal = boxed_if(alloc, literal)?;
             Ok(Written::Named(name, literal, node.is_before, None))
         }
     }

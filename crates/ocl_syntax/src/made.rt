@@ -163,6 +163,19 @@ fn parts(
     Ok(Items::from_vec(found))
 }
 
+/// What is seldom there, in a box, so that a node takes little room.
+pub(crate) fn boxed_if<T: Drop>(
+    alloc: Global,
+    value: Option<T>,
+) -> Result<Option<Boxed<T>>, AllocError>
+    ensures { IfOk result (λ b. b ≡ value) }
+{
+    match value {
+        None => Ok(None),
+        Some(value) => Ok(Some(Boxed::new(alloc, value)?)),
+    }
+}
+
 fn named(
     alloc: Global,
     name: Name,
@@ -173,6 +186,7 @@ fn named(
 ) -> Result<Written, AllocError>
     ensures { IfOk result (λ w. w ≡ made_of (Head.Named name literal is_before heads) made) }
 {
+    let literal = boxed_if(alloc, literal)?;
     let arguments = arguments_if(alloc, heads, made)?;
     Ok(Written::Named(name, literal, is_before, arguments))
 }
@@ -210,6 +224,7 @@ fn bind(
 {
     let value = made.boxed(alloc)?;
     let behind = made.boxed(alloc)?;
+    let of_type = boxed_if(alloc, of_type)?;
     Ok(Written::Let(place, name, of_type, value, behind))
 }
 

@@ -51,14 +51,14 @@ pub enum Written {
     /// `#a`; the place is that of `#`.
     OnlyLiteral(Place, Name),
     /// A name, `E::a` or `op(args)`; the flag says that `@pre` follows.
-    Named(Name, Option<Name>, bool, Option<Items<Argument>>),
+    Named(Name, Option<Boxed<Name>>, bool, Option<Items<Argument>>),
     /// A collection literal: the place of its kind, the kind and the parts.
     Collection(Place, Kind, Items<WrittenPart>),
     /// The place of the word `if`, the condition and the two branches.
     If(Place, Boxed<Written>, Boxed<Written>, Boxed<Written>),
     /// One bind of a `let`: the place of the word `let` (of a later bind that of its name), the
     /// name, its type, its value, and what stands behind it: the next bind, or the body.
-    Let(Place, Name, Option<TypeDecl>, Boxed<Written>, Boxed<Written>),
+    Let(Place, Name, Option<Boxed<TypeDecl>>, Boxed<Written>, Boxed<Written>),
     /// The place of the operator, the operator and its operand.
     Unary(Place, WrittenUnary, Boxed<Written>),
     /// The place of the operator, the operator and its operands.

@@ -13,7 +13,7 @@ use ocl_rules::{TypeFault, Typed, levels};
 use ocl_scope::{Environment, Given, type_named};
 use ocl_shapes::{asks_elements, called, class_asked, extent, has_none, named_by, property};
 use ocl_syntax::{Argument, Written};
-use use_lists::Items;
+use use_lists::{Boxed, Items};
 
 impl<F> Node<'_, F>
 where
@@ -45,7 +45,7 @@ where
         &self,
         env: &mut Environment,
         name: &Name,
-        literal: &Option<Name>,
+        literal: &Option<Boxed<Name>>,
         is_before: bool,
         arguments: &Option<Items<Argument>>,
     ) -> Result<Typed, TypeFault>

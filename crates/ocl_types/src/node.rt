@@ -16,7 +16,7 @@ use ocl_scope::{Environment, declared_type, literal_type};
 use ocl_syntax::{Written, WrittenBinary, WrittenLiteral, WrittenPart, WrittenUnary};
 use ocl_values::{Kind, Text};
 use std::alloc::{AllocError, Global};
-use use_lists::Items;
+use use_lists::{Boxed, Items};
 use use_text::Place;
 
 /// A node, by what types its parts.
@@ -36,6 +36,15 @@ pub(crate) fn literal(alloc: Global, said: &WrittenLiteral) -> Result<Typed, All
         expr: Expr::Literal(value),
         of_type,
     })
+}
+
+fn unboxed(written: &Option<Boxed<TypeDecl>>) -> Option<&TypeDecl>
+    ensures { option_copied result ≡ written.now }
+{
+    match written {
+        None => None,
+        Some(written) => Some(written.get()),
+    }
 }
 
 /// The type of a variable: the one that is declared, or else that of its value.
@@ -222,7 +231,7 @@ where
         &self,
         env: &mut Environment,
         name: &Name,
-        of_type: &Option<TypeDecl>,
+        of_type: &Option<Boxed<TypeDecl>>,
         value: &Written,
         body: &Written,
     ) -> Result<Typed, TypeFault>
@@ -233,7 +242,7 @@ where
         ensures environment { env.new ≡ env.old }
     {
         let alloc = self.setting.alloc;
-        let declared = self.declared(env, of_type.as_ref())?;
+        let declared = self.declared(env, unboxed(of_type))?;
         let x = self.part(env, value)?;
         let of_type = bound(alloc, &declared, &x.of_type)?;
         let y = self.under(env, name, of_type, body)?;

@@ -1,5 +1,5 @@
 ghost use Rattle.std.specs.Prelude.{◌≡◌, ◌^◌, ◌-◌, ◌+◌, ◌*◌, ◌<◌, ◌≤◌, ◌∷◌, List, ℕ, false, min, length, drop, take_while};
-ghost use Rattle.use_text.specs.declared.words.TheConstants.{SYMBOLS};
+ghost use Rattle.use_text.specs.declared.words.TheConstants.{SYMBOLS, WORDS};
 ghost use Rattle.use_text.specs.Pieces.{is_white, white_length, is_letter, is_digit, is_name_byte, is_in_line, digits_value, same_text, begins, kind_among, word_kind, word_piece, number_of_digits, number_piece, string_end, string_piece, comment_end, comment_piece, at_piece, symbol_among, symbol_piece, mark_piece, piece_of};
 
 use crate::words::{SYMBOLS, WORDS};
@@ -104,11 +104,85 @@ fn kind_among(rows: &[(&str, TokenKind)], word: &[u8]) -> TokenKind
     TokenKind::Name
 }
 
+/// The words that begin with this capital letter, or all words.
+fn capital_words_from(b: u8) -> &'static [(&'static str, TokenKind)]
+    ensures { (rest : List ℕ) → kind_among result.now (λ t. t.now) (b ∷ rest) ≡ kind_among WORDS (λ t. t.now) (b ∷ rest) }
+{
+    match b {
+        b'A' => &[],
+        b'B' => &WORDS[..1],
+        b'C' => &[],
+        b'D' => &[],
+        b'E' => &[],
+        b'F' => &[],
+        b'G' => &[],
+        b'H' => &[],
+        b'I' => &[],
+        b'J' => &[],
+        b'K' => &[],
+        b'L' => &[],
+        b'M' => &[],
+        b'N' => &[],
+        b'O' => &WORDS[1..2],
+        b'P' => &[],
+        b'Q' => &[],
+        b'R' => &[],
+        b'S' => &WORDS[2..4],
+        b'T' => &[],
+        b'U' => &WORDS[4..5],
+        b'V' => &[],
+        b'W' => &[],
+        b'X' => &[],
+        b'Y' => &[],
+        b'Z' => &[],
+        _ => &WORDS,
+    }
+}
+
+/// The words that begin with this letter, or all words.
+fn words_from(b: u8) -> &'static [(&'static str, TokenKind)]
+    ensures { (rest : List ℕ) → kind_among result.now (λ t. t.now) (b ∷ rest) ≡ kind_among WORDS (λ t. t.now) (b ∷ rest) }
+{
+    match b {
+        b'_' => &[],
+        b'a' => &WORDS[5..10],
+        b'b' => &WORDS[10..12],
+        b'c' => &WORDS[12..18],
+        b'd' => &WORDS[18..23],
+        b'e' => &WORDS[23..28],
+        b'f' => &WORDS[28..31],
+        b'g' => &[],
+        b'h' => &[],
+        b'i' => &WORDS[31..39],
+        b'j' => &[],
+        b'k' => &[],
+        b'l' => &WORDS[39..40],
+        b'm' => &WORDS[40..42],
+        b'n' => &WORDS[42..45],
+        b'o' => &WORDS[45..51],
+        b'p' => &WORDS[51..53],
+        b'q' => &WORDS[53..54],
+        b'r' => &WORDS[54..57],
+        b's' => &WORDS[57..58],
+        b't' => &WORDS[58..60],
+        b'u' => &WORDS[60..61],
+        b'v' => &WORDS[61..62],
+        b'w' => &WORDS[62..63],
+        b'x' => &WORDS[63..],
+        b'y' => &[],
+        b'z' => &[],
+        _ => capital_words_from(b),
+    }
+}
+
 #[tactic(auto, unfolding(crate::specs::Pieces::word_kind))]
 fn word_kind(word: &[u8]) -> TokenKind
     ensures { result ≡ word_kind word.now }
 {
-    kind_among(&WORDS, word)
+    match word {
+        [] => TokenKind::Name,
+        [b, ..] => kind_among(words_from(*b), word),
+    }
 }
 
 /// A word of these bytes.

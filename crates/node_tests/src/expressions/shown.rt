@@ -35,7 +35,7 @@ fn add_literal(
     }
 }
 
-fn add_type(alloc: Global, of_type: &Option<TypeDecl>, out: &mut String) -> Result<(), AllocError> {
+fn add_type(alloc: Global, of_type: Option<&TypeDecl>, out: &mut String) -> Result<(), AllocError> {
     match of_type {
         None => Ok(()),
         Some(of_type) => {
@@ -83,13 +83,13 @@ fn add_argument(alloc: Global, argument: &Argument, out: &mut String) -> Result<
         Argument::Item(e, of_type, start) => {
             out.push_str(" ,")?;
             add(alloc, e, out)?;
-            add_type(alloc, of_type, out)?;
+            add_type(alloc, of_type.as_ref(), out)?;
             add_start(alloc, start, out)
         }
         Argument::Accumulator(e, of_type, start) => {
             out.push_str(" ;")?;
             add(alloc, e, out)?;
-            add_type(alloc, of_type, out)?;
+            add_type(alloc, of_type.as_ref(), out)?;
             add_start(alloc, start, out)
         }
         Argument::Body(e) => {
@@ -172,7 +172,7 @@ fn add_node(alloc: Global, e: &Written, out: &mut String) -> Result<(), AllocErr
         Written::Let(place, name, of_type, value, behind) => {
             add_head(alloc, "let", place, out)?;
             add_name(alloc, name, out)?;
-            add_type(alloc, of_type, out)?;
+            add_type(alloc, of_type.as_ref().map(|t| t.get()), out)?;
             add(alloc, value.get(), out)?;
             add(alloc, behind.get(), out)
         }
@@ -203,7 +203,7 @@ fn add_property(alloc: Global, e: &Written, out: &mut String) -> Result<(), Allo
             add_name(alloc, name, out)?;
             if let Some(literal) = literal {
                 out.push_str(" ::")?;
-                add_name(alloc, literal, out)?;
+                add_name(alloc, literal.get(), out)?;
             }
             add_flag(*is_before, out)?;
             match arguments {

@@ -1,4 +1,4 @@
-use Rattle.std.proofs.Common.{◌≡◌, [], ◌∷◌, ◌++◌, List, Option, Some, ◌<◌, sym, subst, ap, ◌∙◌}
+use Rattle.std.proofs.Common.{◌≡◌, [], ◌∷◌, ◌++◌, List, Option, Some, ℕ, ◌<◌, ◌≤◌, arith, sym, subst, ap, ◌∙◌}
 use Rattle.grammar_core.specs.declared.table.Prod.TheVariants.{Call}
 use Rattle.grammar_core.specs.declared.machine.Task.{Task}
 use Rattle.grammar_core.specs.declared.machine.Task.TheVariants.{Read}
@@ -6,7 +6,7 @@ use Rattle.grammar_core.specs.Arena.{read_trees}
 use Rattle.grammar_core.specs.Derives.{kinds}
 use Rattle.grammar_core.specs.Answers.{Answer, of_production, whole, outcome_of}
 use Rattle.grammar_core.specs.Tasks.{tasks, left, AreTasks, steps_of}
-use Rattle.grammar_core.proofs.Stack.{tasks-none, AreTasks-last, fails_all, one_step, started, taken}
+use Rattle.grammar_core.proofs.Stack.{tasks-none, AreTasks-last, fails_all, one_step, started}
 use Rattle.grammar_core.proofs.machine.run.Goals as goal
 
 pub steps-init : goal.steps-init
@@ -34,27 +34,24 @@ step-requires-clause-all c =
 pub steps-smaller : goal.steps-smaller
 steps-smaller c =
     let e = ap (λ (n : Option Task). left c.steps.work.stack.items n) c.in-Some-next.is in
-    let t = taken c.take_next-next.result c.step.new.work.stack.items c.take_next-next.new.stack.items c.in-Ok.done.next c.take_next-next.ensures.task
-    c.take_next-next.ensures.none in
     let s = one_step c.args.g.now (kinds c.args.tokens.now) (left c.steps.work.stack.items c.steps.next) c.steps.work.stack.items
     (left c.step.new.work.stack.items c.in-Ok.done.next) c.in-Some-next.task c.steps.at c.in-Ok.done.at (read_trees c.steps.work.built)
     (read_trees c.step.new.work.built) e c.in-Ok.ensures.0 in
-    subst (λ (l : List Task). steps_of (tasks c.args.g.now (kinds c.args.tokens.now) l c.in-Ok.done.at (read_trees c.step.new.work.built) 0) < steps_of
-    (tasks c.args.g.now (kinds c.args.tokens.now) (left c.steps.work.stack.items c.steps.next) c.steps.at (read_trees c.steps.work.built) 0)) t.0 s.1
+    below s.1 c.in_ok-next.ensures.ended.steps
+  where
+    below : {a b d : ℕ} → b < d → a ≤ b → a < d
+    below l k = omega (arith, l, k)
 
 pub steps-preserved : goal.steps-preserved
 steps-preserved c =
     let e = ap (λ (n : Option Task). left c.steps.work.stack.items n) c.in-Some-next.is in
-    let t = taken c.take_next-next.result c.step.new.work.stack.items c.take_next-next.new.stack.items c.in-Ok.done.next c.take_next-next.ensures.task
-    c.take_next-next.ensures.none in
     let s = one_step c.args.g.now (kinds c.args.tokens.now) (left c.steps.work.stack.items c.steps.next) c.steps.work.stack.items
     (left c.step.new.work.stack.items c.in-Ok.done.next) c.in-Some-next.task c.steps.at c.in-Ok.done.at (read_trees c.steps.work.built)
     (read_trees c.step.new.work.built) e c.in-Ok.ensures.0 in
     record {
-      same = ap (λ (l : List Task). outcome_of (tasks c.args.g.now (kinds c.args.tokens.now) l c.in-Ok.done.at (read_trees c.step.new.work.built) 0)) (sym t.0)
-          ∙ s.0 ∙ c.steps.invariant.same;
-      all = subst (λ (l : List Task). AreTasks c.args.g.now l) t.0 c.in-Ok.ensures.1;
-      last = t.1;
+      same = c.in_ok-next.ensures.ended.same ∙ s.0 ∙ c.steps.invariant.same;
+      all = c.in_ok-next.ensures.ended.all;
+      last = c.in_ok-next.ensures.none;
     }
 
 pub returns-in-Err : goal.returns-in-Err
