@@ -2,10 +2,10 @@
 #![tactic(auto)]
 
 #[cfg(test)]
-mod builder;
-#[cfg(test)]
-mod decls;
+mod declared;
 #[cfg(test)]
 mod model;
 #[cfg(test)]
 mod rules;
+#[cfg(test)]
+mod texts;

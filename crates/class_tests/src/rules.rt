@@ -1,232 +1,180 @@
-use class_decls::{AttrDecl, ClassDecl, Decls, Name, TypeDecl};
-use class_rules::*;
-use ocl_values::Text;
-use std::alloc::{AllocError, Global};
+ghost use Rattle.std.specs.Prelude.{◌≡◌};
+ghost use Rattle.use_syntax.specs.Language.{language};
+
+use crate::texts::{decls_of, language};
+use class_builder::build;
+use class_rules::{RuleFault, judge};
+use grammar_core::Grammar;
+use std::alloc::Global;
 use std::test::Fail;
-use use_lists::Items;
-use use_text::{Code, Family, Place, Refusal};
 
-fn name(alloc: Global, text: &str, line: u32, col: u32) -> Result<Name, AllocError> {
-    Ok(Name {
-        text: Text::copy_of(alloc, text)?,
-        place: Place { line, col },
-    })
+/// The number of the rule that a model breaks, and the place; zeros where it breaks none.
+type Told = (u8, u32, u32);
+
+fn told(fault: RuleFault) -> Told {
+    match fault {
+        RuleFault::Refused(refusal) => (refusal.code.number, refusal.place.line, refusal.place.col),
+        _ => (255, 0, 0),
+    }
 }
 
-/// A class on a line of its own, with at most two parents and one attribute.
-fn class(
-    alloc: Global,
-    text: &str,
-    line: u32,
-    parents: [Option<&str>; 2],
-    attr: Option<&str>,
-) -> Result<ClassDecl, AllocError> {
-    let mut names = Items::new(alloc);
-    if let Some(parent) = parents[0] {
-        names.push(name(alloc, parent, line, 11)?)?;
-    }
-    if let Some(parent) = parents[1] {
-        names.push(name(alloc, parent, line, 14)?)?;
-    }
-    let mut attrs = Items::new(alloc);
-    if let Some(attr) = attr {
-        attrs.push(AttrDecl {
-            name: name(alloc, attr, line, 20)?,
-            of_type: TypeDecl {
-                kinds: Items::new(alloc),
-                name: name(alloc, "Integer", line, 24)?,
-            },
-            is_derived: false,
-        })?;
-    }
-    Ok(ClassDecl {
-        name: name(alloc, text, line, 7)?,
-        is_abstract: false,
-        parents: names,
-        attrs,
-        ops: Items::new(alloc),
-    })
-}
-
-fn model(alloc: Global, classes: Items<ClassDecl>) -> Result<Decls, AllocError> {
-    Ok(Decls {
-        name: name(alloc, "M", 1, 7)?,
-        enums: Items::new(alloc),
-        classes,
-        assocs: Items::new(alloc),
-        conds: Items::new(alloc),
-        context_heads: Items::new(alloc),
-    })
-}
-
-fn refused(number: u8, line: u32, col: u32) -> Result<(), RuleFault> {
-    Err(RuleFault::Refused(Refusal {
-        code: Code {
-            family: Family::M,
-            number,
+/// What the rules tell of a model.
+fn judged(alloc: Global, g: &Grammar, text: &str) -> Result<Option<Told>, Fail>
+    requires { g.now ≡ language }
+{
+    match decls_of(alloc, g, text)? {
+        None => Ok(None),
+        Some(decls) => match judge(alloc, &decls) {
+            Ok(()) => Ok(Some((0, 0, 0))),
+            Err(fault) => Ok(Some(told(fault))),
         },
-        place: Place { line, col },
-    }))
-}
-
-#[test]
-fn a_cycle_is_told_at_the_class_that_closes_it(rt: HostRuntime) -> Result<(), Fail> {
-    let alloc = rt.alloc();
-    let mut classes = Items::new(alloc);
-    classes.push(class(alloc, "A", 2, [Some("B"), None], None)?)?;
-    classes.push(class(alloc, "B", 4, [Some("A"), None], None)?)?;
-    let decls = model(alloc, classes)?;
-    assert_eq!(rt; judge(alloc, &decls), refused(4, 4, 7));
-    Ok(())
-}
-
-#[test]
-fn an_attribute_of_two_parents_is_met_twice(rt: HostRuntime) -> Result<(), Fail> {
-    let alloc = rt.alloc();
-    let mut classes = Items::new(alloc);
-    classes.push(class(alloc, "A", 2, [None, None], Some("y"))?)?;
-    classes.push(class(alloc, "B", 3, [None, None], Some("y"))?)?;
-    classes.push(class(alloc, "D", 4, [Some("A"), Some("B")], None)?)?;
-    let decls = model(alloc, classes)?;
-    assert_eq!(rt; judge(alloc, &decls), refused(5, 4, 7));
-    Ok(())
-}
-
-#[test]
-fn an_attribute_of_one_ancestor_is_met_once(rt: HostRuntime) -> Result<(), Fail> {
-    let alloc = rt.alloc();
-    let mut classes = Items::new(alloc);
-    classes.push(class(alloc, "D", 2, [Some("B"), Some("C")], None)?)?;
-    classes.push(class(alloc, "B", 3, [Some("A"), None], None)?)?;
-    classes.push(class(alloc, "C", 4, [Some("A"), None], None)?)?;
-    classes.push(class(alloc, "A", 5, [None, None], Some("y"))?)?;
-    let decls = model(alloc, classes)?;
-    assert_eq!(rt; judge(alloc, &decls), Ok(()));
-    Ok(())
-}
-
-/// A class, its line, its parents and its attribute; an empty text stands for none.
-type Row = (&'static str, u32, [&'static str; 2], &'static str);
-
-fn given(text: &'static str) -> Option<&'static str> {
-    if text == "" { None } else { Some(text) }
-}
-
-/// The classes of some rows.
-fn model_of(alloc: Global, rows: &[Row]) -> Result<Decls, AllocError> {
-    let mut classes = Items::new(alloc);
-    'rows: for row in rows {
-        let parents = [given(row.2[0]), given(row.2[1])];
-        classes.push(class(alloc, row.0, row.1, parents, given(row.3))?)?;
     }
-    model(alloc, classes)
 }
 
-#[test]
-fn the_least_rule_is_told_first(rt: HostRuntime) -> Result<(), Fail> {
-    let alloc = rt.alloc();
-    let table: [(&[Row], Result<(), RuleFault>); 6] = [
-        // M1 before M2
-        (
-            &[("A", 2, ["Z", ""], ""), ("String", 3, ["", ""], "")],
-            refused(1, 3, 7),
-        ),
-        // M2 before M3
-        (&[("A", 2, ["Z", "Z"], "")], refused(2, 2, 11)),
-        // M3 before M4
-        (&[("A", 2, ["A", "A"], "")], refused(3, 2, 14)),
-        // M4 before M5
-        (
-            &[
-                ("A", 2, ["A", ""], ""),
-                ("B", 3, ["", ""], "x"),
-                ("C", 4, ["B", ""], "x"),
-            ],
-            refused(4, 2, 7),
-        ),
-        // M5 at the first class in the text that has the fault
-        (
-            &[
-                ("D", 2, ["C", ""], ""),
-                ("B", 3, ["", ""], "x"),
-                ("C", 4, ["B", ""], "x"),
-            ],
-            refused(5, 2, 7),
-        ),
-        (
-            &[
-                ("D", 2, ["C", ""], ""),
-                ("B", 3, ["", ""], "x"),
-                ("C", 4, ["B", ""], "y"),
-            ],
-            Ok(()),
-        ),
-    ];
-    'rows: for row in table.iter() {
-        let decls = model_of(alloc, row.0)?;
-        assert_eq!(rt; judge(alloc, &decls), row.1);
+/// What the builder tells of a model.
+fn built(alloc: Global, g: &Grammar, text: &str) -> Result<Option<Told>, Fail>
+    requires { g.now ≡ language }
+{
+    match decls_of(alloc, g, text)? {
+        None => Ok(None),
+        Some(decls) => match build(alloc, decls) {
+            Ok(_) => Ok(Some((0, 0, 0))),
+            Err(fault) => Ok(Some(told(fault))),
+        },
     }
-    Ok(())
 }
 
-#[test]
-fn names_that_unrelated_classes_share_are_met_below_both(rt: HostRuntime) -> Result<(), Fail> {
-    let alloc = rt.alloc();
-    let table: [(&[Row], Result<(), RuleFault>); 2] = [
-        (
-            &[
-                ("A", 2, ["", ""], "x"),
-                ("B", 3, ["A", ""], "y"),
-                ("C", 4, ["B", ""], ""),
-                ("E", 5, ["", ""], "x"),
-                ("F", 6, ["", ""], "y"),
-                ("G", 7, ["E", "F"], ""),
-            ],
-            Ok(()),
+/// A model, behind its first line, and what is told of it.
+fn row(at: u32) -> (&'static str, Told) {
+    match at {
+        0 => ("class A end", (0, 0, 0)),
+        // M1: one space for enumerations, classes and the plain types, one for each one's literals
+        1 => ("class A end\nclass A end", (1, 3, 7)),
+        2 => ("enum Color {red, red}", (1, 2, 18)),
+        3 => ("enum Color {Color, A}\nclass A end", (0, 0, 0)),
+        4 => ("enum Color {red}\nclass Color end", (1, 3, 7)),
+        5 => ("class String end", (1, 2, 7)),
+        // M2: an enumeration is a type, and no class
+        6 => (
+            "class A end\nclass B < A\nattributes x : Color\nend\nenum Color {red}",
+            (0, 0, 0),
         ),
-        (
-            &[
-                ("A", 2, ["", ""], "x"),
-                ("B", 3, ["A", ""], "y"),
-                ("C", 4, ["B", ""], ""),
-                ("D", 5, ["C", "F"], ""),
-                ("E", 6, ["", ""], "x"),
-                ("F", 7, ["", ""], "y"),
-            ],
-            refused(5, 5, 7),
+        7 => (
+            "class A end\nclass B < A\nattributes x : Colour\nend\nenum Color {red}",
+            (2, 4, 16),
         ),
-    ];
-    'rows: for row in table.iter() {
-        let decls = model_of(alloc, row.0)?;
-        assert_eq!(rt; judge(alloc, &decls), row.1);
+        8 => ("enum Color {red}\nclass B < Color end", (2, 3, 11)),
+        // M3, M4
+        9 => ("class A end\nclass C < A, A end", (3, 3, 14)),
+        10 => ("class A < B end\n\nclass B < A end", (4, 4, 7)),
+        // M6 to M12
+        11 => (
+            "class A attributes b : Integer end\nclass B end\nassociation R between A[*] B[*] end",
+            (6, 2, 7),
+        ),
+        12 => (
+            "class A operations\n  f()\n  f(x : Integer)\nend",
+            (7, 4, 3),
+        ),
+        13 => (
+            "class A operations f() : Integer end\nclass B < A operations f() : String end",
+            (8, 3, 24),
+        ),
+        14 => (
+            "class A operations f() end\nclass B operations f() end\nclass C < A, B end",
+            (9, 4, 7),
+        ),
+        15 => (
+            "class A operations f() : Integer = 1 end\nclass B < A operations f() : Integer begin result := 1 end end",
+            (10, 3, 24),
+        ),
+        16 => (
+            "class A end\nassociation R between A[0..1] role a A[*] role b end",
+            (0, 0, 0),
+        ),
+        17 => (
+            "class A end\nassociation R between A[0] role a A[*] role b end",
+            (11, 3, 25),
+        ),
+        18 => (
+            "class A end\nassociation R between A[*] role a A[2..1] role b end",
+            (11, 3, 37),
+        ),
+        19 => (
+            "class A end\nassociation R between A[4294967295] role a A[4294967296] role b end",
+            (11, 3, 46),
+        ),
+        20 => (
+            "class A operations f() end\nconstraints\ncontext A::g() pre: true",
+            (12, 4, 12),
+        ),
+        // the least rule is told first
+        21 => ("class A < Z end\nclass String end", (1, 3, 7)),
+        22 => ("class A < Z, Z end", (2, 2, 11)),
+        23 => ("class A < A, A end", (3, 2, 14)),
+        24 => (
+            "class A < A end\nclass B attributes x : Integer end\nclass C < B attributes x : Integer end",
+            (4, 2, 7),
+        ),
+        _ => inherited(at),
     }
-    Ok(())
+}
+
+/// M5: an attribute of one ancestor is met once, and what unrelated classes share is met below both;
+/// it is told at the first class in the text that has the fault.
+fn inherited(at: u32) -> (&'static str, Told) {
+    match at {
+        25 => (
+            "class A attributes y : Integer end\nclass B attributes y : Integer end\nclass D < A, B end",
+            (5, 4, 7),
+        ),
+        26 => (
+            "class D < B, C end\nclass B < A end\nclass C < A end\nclass A attributes y : Integer end",
+            (0, 0, 0),
+        ),
+        27 => (
+            "class D < C end\nclass B attributes x : Integer end\nclass C < B attributes x : Integer end",
+            (5, 2, 7),
+        ),
+        28 => (
+            "class D < C end\nclass B attributes x : Integer end\nclass C < B attributes y : Integer end",
+            (0, 0, 0),
+        ),
+        29 => (
+            "class A attributes x : Integer end\nclass B < A attributes y : Integer end\nclass C < B end\n\
+            class E attributes x : Integer end\nclass F attributes y : Integer end\nclass G < E, F end",
+            (0, 0, 0),
+        ),
+        _ => (
+            "class A attributes x : Integer end\nclass B < A attributes y : Integer end\nclass C < B end\n\
+            class D < C, F end\nclass E attributes x : Integer end\nclass F attributes y : Integer end",
+            (5, 5, 7),
+        ),
+    }
+}
+
+/// The first row of which the rules or the builder tell something else.
+fn first_other(alloc: Global, g: &Grammar) -> Result<Option<u32>, Fail>
+    requires { g.now ≡ language }
+{
+    'rows: for at in 0..31u32 {
+        let (rest, wanted) = row(at);
+        let text = format!(in alloc; "model M\n{rest}\n")?;
+        let by_rules = judged(alloc, g, text.as_str())?;
+        let by_builder = built(alloc, g, text.as_str())?;
+        if by_rules != Some(wanted) || by_builder != Some(wanted) {
+            return Ok(Some(at));
+        }
+    }
+    Ok(None)
 }
 
 #[test]
-fn parents_have_smaller_numbers(rt: HostRuntime) -> Result<(), Fail> {
-    let alloc = rt.alloc();
-    let decls = model_of(
-        alloc,
-        &[
-            ("D", 2, ["C", "B"], ""),
-            ("B", 3, ["A", ""], ""),
-            ("C", 4, ["A", ""], ""),
-            ("A", 5, ["", ""], ""),
-        ],
-    )?;
-    let hierarchy = Hierarchy::of(alloc, &decls)?;
-    assert_eq!(rt; hierarchy.order(), [3, 1, 2, 0].as_slice());
-    assert_eq!(rt; hierarchy.number(0), Some(3));
-    assert_eq!(rt; hierarchy.parents(3), [2, 1].as_slice());
-    assert_eq!(rt;
-        hierarchy.ancestors(alloc, 3)?.as_slice(),
-        [0, 1, 2, 3].as_slice()
-    );
-    assert_eq!(rt;
-        hierarchy.class(0).map(|class| class.name.place.line),
-        Some(5)
-    );
-    assert_eq!(rt; hierarchy.decls().classes.len(), 4);
+fn a_model_is_refused_by_its_least_rule_at_its_first_place(rt: HostRuntime) -> Result<(), Fail> {
+    let found = language(rt.alloc())?;
+    if let Some(g) = &found {
+        assert_eq!(rt; first_other(rt.alloc(), g)?, None);
+    }
+    assert!(rt; found.is_some());
     Ok(())
 }
