@@ -58,54 +58,57 @@ fn count(alloc: Global, store: &PlainStore, class: u32) -> Result<usize, AllocEr
     Ok(there.len())
 }
 
-/// Whether a new store is empty.
-fn starts_empty(alloc: Global) -> Result<bool, AllocError> {
-    let store = PlainStore::new(alloc, layout(alloc)?);
-    Ok(store.counters() == (1, 1) && store.weight() == 0 && store.object_named("a").is_none())
-}
-
-/// Whether an object is one of its class and of all ancestors.
-fn is_of_all_ancestors(alloc: Global) -> Result<bool, AllocError> {
-    let mut store = PlainStore::new(alloc, layout(alloc)?);
-    let made = create(alloc, &mut store, "d", 3)?;
-    Ok(
-        made.is_some()
-            && store.object_named("d") == Some(1)
-            && count(alloc, &store, 0)? == 1
-            && count(alloc, &store, 2)? == 1
-            && count(alloc, &store, 4)? == 0,
-    )
-}
-
-/// Whether a slot is null at first.
-fn has_null_slots(alloc: Global) -> Result<bool, AllocError> {
-    let mut store = PlainStore::new(alloc, layout(alloc)?);
-    let made = create(alloc, &mut store, "d", 3)?;
-    let seen = store.look(alloc, &Cell::Slot(1, 2))?;
-    Ok(made.is_some() && seen == Look::Value(Value::Null))
-}
-
-/// Whether a name that is taken and an abstract class are refused.
-fn refuses_what_does_not_fit(alloc: Global) -> Result<bool, AllocError> {
-    let mut store = PlainStore::new(alloc, layout(alloc)?);
-    let made = create(alloc, &mut store, "d", 3)?;
-    let again = create(alloc, &mut store, "d", 0)?;
-    let of_none = create(alloc, &mut store, "e", 4)?;
-    Ok(made.is_some() && again.is_none() && of_none.is_none())
-}
-
 #[test]
-fn a_plain_store_takes_the_objects_that_fit(rt: HostRuntime) -> Result<(), Fail> {
+fn a_new_store_is_empty(rt: HostRuntime) -> Result<(), Fail> {
     let alloc = rt.alloc();
-    assert!(rt; starts_empty(alloc)?);
-    assert!(rt; is_of_all_ancestors(alloc)?);
-    assert!(rt; has_null_slots(alloc)?);
-    assert!(rt; refuses_what_does_not_fit(alloc)?);
+    let store = PlainStore::new(alloc, layout(alloc)?);
+    assert_eq!(rt; store.counters(), (1, 1));
+    assert_eq!(rt; store.weight(), 0);
+    assert_eq!(rt; store.object_named("a"), None);
     Ok(())
 }
 
-/// Whether a link and its inverse take each other back.
-fn links_are_taken_back() -> bool {
+#[test]
+fn an_object_is_of_its_class_and_all_ancestors(rt: HostRuntime) -> Result<(), Fail> {
+    let alloc = rt.alloc();
+    let mut store = PlainStore::new(alloc, layout(alloc)?);
+    assert!(rt; create(alloc, &mut store, "d", 3)?.is_some());
+    assert_eq!(rt; store.object_named("d"), Some(1));
+    assert_eq!(rt; count(alloc, &store, 0)?, 1);
+    assert_eq!(rt; count(alloc, &store, 2)?, 1);
+    assert_eq!(rt; count(alloc, &store, 4)?, 0);
+    Ok(())
+}
+
+#[test]
+fn a_slot_is_null_at_first(rt: HostRuntime) -> Result<(), Fail> {
+    let alloc = rt.alloc();
+    let mut store = PlainStore::new(alloc, layout(alloc)?);
+    assert!(rt; create(alloc, &mut store, "d", 3)?.is_some());
+    let seen = store.look(alloc, &Cell::Slot(1, 2))?;
+    assert!(rt; seen == Look::Value(Value::Null));
+    Ok(())
+}
+
+#[test]
+fn a_taken_name_and_an_abstract_class_are_refused(rt: HostRuntime) -> Result<(), Fail> {
+    let alloc = rt.alloc();
+    let mut store = PlainStore::new(alloc, layout(alloc)?);
+    assert!(rt; create(alloc, &mut store, "d", 3)?.is_some());
+    assert!(rt; create(alloc, &mut store, "d", 0)?.is_none());
+    assert!(rt; create(alloc, &mut store, "e", 4)?.is_none());
+    Ok(())
+}
+
+fn variable() -> Variable {
+    Variable {
+        of_type: OclType::Int,
+        value: Value::Int(7),
+    }
+}
+
+#[test]
+fn a_link_tells_how_it_is_taken_back(rt: HostRuntime) {
     let there = LinkChange {
         assoc: 0,
         first: 1,
@@ -119,19 +122,13 @@ fn links_are_taken_back() -> bool {
         after: 5,
         ..there
     };
-    Change::Link(there).inverse() == Change::Unlink(back)
-        && Change::Unlink(back).inverse() == Change::Link(there)
+    assert!(rt; Change::Link(there).inverse() == Change::Unlink(back));
+    assert!(rt; Change::Unlink(back).inverse() == Change::Link(there));
 }
 
-fn variable() -> Variable {
-    Variable {
-        of_type: OclType::Int,
-        value: Value::Int(7),
-    }
-}
-
-/// Whether a binding weighs two, and is taken back by its end.
-fn bindings_are_taken_back(alloc: Global) -> Result<bool, AllocError> {
+#[test]
+fn a_binding_tells_how_it_is_taken_back(rt: HostRuntime) -> Result<(), Fail> {
+    let alloc = rt.alloc();
     let bound = Change::Bind {
         name: Text::copy_of(alloc, "v")?,
         old: None,
@@ -141,13 +138,8 @@ fn bindings_are_taken_back(alloc: Global) -> Result<bool, AllocError> {
         name: Text::copy_of(alloc, "v")?,
         old: variable(),
     };
-    Ok(bound.weight() == 2 && bound.inverse() == unbound)
-}
-
-#[test]
-fn a_change_tells_how_it_is_taken_back(rt: HostRuntime) -> Result<(), Fail> {
-    assert!(rt; links_are_taken_back());
-    assert!(rt; bindings_are_taken_back(rt.alloc())?);
+    assert_eq!(rt; bound.weight(), 2);
+    assert!(rt; bound.inverse() == unbound);
     Ok(())
 }
 
@@ -161,8 +153,9 @@ fn touched_by(alloc: Global, change: &Change) -> Result<Cells, AllocError> {
     Ok(cells)
 }
 
-/// Whether a creation touches the kind, the slots, the navigations and the extents of its object.
-fn creations_touch_their_cells(alloc: Global) -> Result<bool, AllocError> {
+#[test]
+fn a_creation_touches_its_cells(rt: HostRuntime) -> Result<(), Fail> {
+    let alloc = rt.alloc();
     let creation = Change::Create(ObjectChange {
         object: 1,
         name: Text::copy_of(alloc, "d")?,
@@ -172,17 +165,17 @@ fn creations_touch_their_cells(alloc: Global) -> Result<bool, AllocError> {
         after: 2,
     });
     let cells = touched_by(alloc, &creation)?;
-    Ok(
-        cells.has(&Cell::Kind(1))
-            && cells.has(&Cell::Slot(1, 1))
-            && cells.has(&Cell::Nav(0, End::First, 1))
-            && cells.has(&Cell::Extent(0))
-            && !cells.has(&Cell::Extent(2)),
-    )
+    assert!(rt; cells.has(&Cell::Kind(1)));
+    assert!(rt; cells.has(&Cell::Slot(1, 1)));
+    assert!(rt; cells.has(&Cell::Nav(0, End::First, 1)));
+    assert!(rt; cells.has(&Cell::Extent(0)));
+    assert!(rt; !cells.has(&Cell::Extent(2)));
+    Ok(())
 }
 
-/// Whether a link touches two navigations.
-fn links_touch_their_cells(alloc: Global) -> Result<bool, AllocError> {
+#[test]
+fn a_link_touches_two_navigations(rt: HostRuntime) -> Result<(), Fail> {
+    let alloc = rt.alloc();
     let link = Change::Link(LinkChange {
         assoc: 0,
         first: 3,
@@ -192,16 +185,8 @@ fn links_touch_their_cells(alloc: Global) -> Result<bool, AllocError> {
         after: 2,
     });
     let cells = touched_by(alloc, &link)?;
-    Ok(
-        cells.iter().count() == 2
-            && cells.has(&Cell::Nav(0, End::First, 4))
-            && cells.has(&Cell::Nav(0, End::Second, 3)),
-    )
-}
-
-#[test]
-fn a_change_touches_its_cells(rt: HostRuntime) -> Result<(), Fail> {
-    assert!(rt; creations_touch_their_cells(rt.alloc())?);
-    assert!(rt; links_touch_their_cells(rt.alloc())?);
+    assert_eq!(rt; cells.iter().count(), 2);
+    assert!(rt; cells.has(&Cell::Nav(0, End::First, 4)));
+    assert!(rt; cells.has(&Cell::Nav(0, End::Second, 3)));
     Ok(())
 }
