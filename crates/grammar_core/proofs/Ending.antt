@@ -1,5 +1,5 @@
 -- Rules that are ended one after the other.
-use Rattle.std.proofs.Common.{◌≡◌, [], ◌∷◌, ◌++◌, ℕ, List, Option, Some, None, arith, refl, ◌∙◌, slice_get, true, false}
+use Rattle.std.proofs.Common.{◌≡◌, [], ◌∷◌, ◌++◌, ℕ, List, Option, Some, None, arith, refl, ◌∙◌, slice_get, true}
 use Rattle.grammar_core.specs.declared.table.Table.{Table}
 use Rattle.grammar_core.specs.declared.table.Prod.{Prod}
 use Rattle.grammar_core.specs.declared.table.Prod.TheVariants.{Tok, Call, Seq, Case, Star}

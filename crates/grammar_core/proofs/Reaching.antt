@@ -1,5 +1,5 @@
 -- Several steps in one: from some tasks others are reached.
-use Rattle.std.proofs.Common.{◌≡◌, ℕ, zero, suc, ◌+◌, ◌<◌, List, [], ◌∷◌, ◌++◌, length, map, get_or, Option, Some, None, slice_get, refl, sym, ap, ◌∙◌, arith, subst, append_assoc, append-nil, false}
+use Rattle.std.proofs.Common.{◌≡◌, ℕ, zero, suc, ◌+◌, List, [], ◌∷◌, ◌++◌, length, map, Option, Some, None, slice_get, refl, sym, ap, ◌∙◌, arith, subst, append_assoc, append-nil, false}
 use Rattle.std.specs.Option.{option_map}
 use Rattle.std.proofs.lemmas.Option.{slice_get-map, slice_get_within}
 use Rattle.grammar_core.specs.declared.table.Table.{Table}
@@ -14,7 +14,7 @@ use Rattle.grammar_core.specs.declared.repeated.Parts.{Parts}
 use Rattle.grammar_core.specs.Answers.{Answer, of_production, then_at, whole}
 use Rattle.grammar_core.specs.Chains.{AreChains, IsLinkAt, Leads}
 use Rattle.grammar_core.specs.Repetitions.{all_parts, parts_in, repeated_parts}
-use Rattle.grammar_core.specs.Tasks.{AreTasks, Begun, Counted, Reached, rule_tasks, task, tasks, tasks_by_parts}
+use Rattle.grammar_core.specs.Tasks.{AreTasks, Begun, Counted, Reached, rule_tasks, tasks, tasks_by_parts}
 use Rattle.grammar_core.specs.Trees.{ParseTree}
 use Rattle.grammar_core.specs.Unfit.{IsFit}
 use Rattle.grammar_core.proofs.Same.{unroll}

@@ -1,6 +1,5 @@
 -- The stack of tasks: what a step leaves to be done.
-use Rattle.std.proofs.Common.{◌≡◌, ℕ, ◌+◌, ◌-◌, ◌<◌, Bool, true, false, cond, List, [], ◌∷◌, ◌++◌, length, reverse, Option, Some, None, MatchOption, slice_get, nat_lt, Err, suc, refl, sym, ap, ◌∙◌, arith, subst, append_assoc, append-nil}
-use Rattle.std.specs.Bool.{⊤}
+use Rattle.std.proofs.Common.{◌≡◌, ℕ, ◌+◌, ◌-◌, ◌<◌, Bool, true, false, cond, List, [], ◌∷◌, ◌++◌, length, reverse, Option, Some, None, slice_get, nat_lt, Err, suc, refl, sym, ap, ◌∙◌, arith, subst, append_assoc, append-nil}
 use Rattle.std.proofs.lemmas.List.{reverse-append}
 use Rattle.std.proofs.lemmas.Option.{slice_get_within}
 use Rattle.grammar_core.specs.declared.table.Table.{Table}
@@ -21,7 +20,7 @@ use Rattle.grammar_core.specs.Answers.{Answer, Reading, then_at, in_turn, again,
 use Rattle.grammar_core.specs.declared.repeated.Parts.{Parts}
 use Rattle.grammar_core.specs.Repetitions.{is_star, parts_in, repeated_parts, two_parts}
 use Rattle.grammar_core.specs.Arena.{closed}
-use Rattle.grammar_core.specs.Tasks.{task, tasks_from, tasks, left, reads, IsStar, tasks_by_parts, rule_tasks, IsTask, AreTasks, Counted, steps_of, Meets}
+use Rattle.grammar_core.specs.Tasks.{task, tasks_from, tasks, reads, IsStar, tasks_by_parts, rule_tasks, IsTask, AreTasks, Counted, steps_of, Meets}
 use Rattle.grammar_core.proofs.Fits.{IsBelow, AllBelow, OtherBelow, branch_below, fits, rule_there}
 use Rattle.grammar_core.proofs.Same.{then_same, unroll}
 use Rattle.grammar_core.proofs.Complete.{at_level, at_no_level, stop_some}

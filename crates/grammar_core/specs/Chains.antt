@@ -1,11 +1,9 @@
 -- Rules that begin one as the first part of another.
 use Rattle.std.specs.Prelude.{◌≡◌, ℕ, false, List, [], ◌∷◌, Some, slice_get}
 use Rattle.grammar_core.specs.declared.table.Table.{Table}
-use Rattle.grammar_core.specs.declared.table.Rule.{Rule}
 use Rattle.grammar_core.specs.declared.table.Prod.TheVariants.{Call}
 use Rattle.grammar_core.specs.declared.chains.Chain.{Chain}
 use Rattle.grammar_core.specs.declared.chains.Link.{Link}
-use Rattle.grammar_core.specs.declared.repeated.Parts.{Parts}
 use Rattle.grammar_core.specs.Repetitions.{repeated_parts}
 use Rattle.grammar_core.specs.Tables.{rule_at}
 

@@ -1,11 +1,11 @@
 -- What is still to be done: a stack of tasks, the next one last. Only proofs use these words.
-use Rattle.std.specs.Prelude.{◌≡◌, ℕ, ◌<◌, ◌≤◌, Bool, true, false, if◌then◌else◌, List, [], ◌∷◌, ◌++◌, length, map, suc, slice_get, Option, Some, None, option_to_list, Result, Ok, Err}
+use Rattle.std.specs.Prelude.{◌≡◌, ℕ, ◌<◌, ◌≤◌, true, false, List, [], ◌∷◌, ◌++◌, length, map, suc, slice_get, Option, Some, None, option_to_list, Result, Ok, Err}
 use Rattle.grammar_core.specs.declared.table.Table.{Table}
 use Rattle.grammar_core.specs.declared.fault.ParseFault.{ParseFault}
 use Rattle.grammar_core.specs.declared.fault.ParseFault.TheVariants.{Memory, Stuck, Deep}
 use Rattle.grammar_core.specs.declared.machine.Done.{Done}
 use Rattle.grammar_core.specs.declared.table.Prod.{Prod}
-use Rattle.grammar_core.specs.declared.table.Prod.TheVariants.{Tok, Call, Seq, Case, Star}
+use Rattle.grammar_core.specs.declared.table.Prod.TheVariants.{Star}
 use Rattle.grammar_core.specs.declared.repeated.Parts.{Parts}
 use Rattle.grammar_core.specs.Repetitions.{is_star, repeated_parts}
 use Rattle.grammar_core.specs.declared.machine.Position.{Position}

@@ -1,5 +1,5 @@
 -- Forms and levels that are left.
-use Rattle.std.proofs.Common.{◌≡◌, ℕ, zero, suc, List, map, reverse, Option, Some, None, refl, ap, sym, ◌∙◌}
+use Rattle.std.proofs.Common.{◌≡◌, ℕ, zero, suc, List, map, reverse, Option, Some, None, refl, ap, sym}
 use Rattle.std.specs.Option.{option_map_or}
 use Rattle.grammar_core.specs.Trees.{ParseTree}
 use Rattle.use_text.specs.declared.place.Place.{Place}

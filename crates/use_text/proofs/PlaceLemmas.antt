@@ -1,5 +1,5 @@
 -- The place behind bytes that stand in one line.
-use Rattle.std.proofs.Common.{◌≡◌, ℕ, suc, ◌+◌, ◌==◌, Bool, true, false, List, [], ◌∷◌, length, take_while, arith, refl, ap, ◌∙◌}
+use Rattle.std.proofs.Common.{◌≡◌, ℕ, suc, ◌+◌, ◌==◌, true, false, List, [], ◌∷◌, length, take_while, arith, refl, ap, ◌∙◌}
 use Rattle.use_text.specs.declared.place.Place.{Place}
 use Rattle.use_text.specs.Pieces.{is_in_line}
 use Rattle.use_text.specs.Places.{place_at, behind, behind_all}

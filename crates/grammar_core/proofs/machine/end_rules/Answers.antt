@@ -1,4 +1,4 @@
-use Rattle.std.proofs.Common.{◌≡◌, ◌++◌, ◌∷◌, [], List, Bool, true, ap, ◌∙◌, subst}
+use Rattle.std.proofs.Common.{◌≡◌, ◌++◌, ◌∷◌, [], List, true, ap, ◌∙◌, subst}
 use Rattle.grammar_core.specs.declared.machine.Task.{Task}
 use Rattle.grammar_core.specs.declared.machine.Task.TheVariants.{Close, Repeat}
 use Rattle.grammar_core.specs.Arena.{read_trees}

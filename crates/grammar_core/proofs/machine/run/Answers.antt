@@ -5,7 +5,7 @@ use Rattle.grammar_core.specs.declared.machine.Task.TheVariants.{Read}
 use Rattle.grammar_core.specs.Arena.{read_trees}
 use Rattle.grammar_core.specs.Derives.{kinds}
 use Rattle.grammar_core.specs.Answers.{Answer, of_production, whole, outcome_of}
-use Rattle.grammar_core.specs.Tasks.{tasks, left, AreTasks, steps_of}
+use Rattle.grammar_core.specs.Tasks.{tasks, left, AreTasks}
 use Rattle.grammar_core.proofs.Stack.{tasks-none, AreTasks-last, fails_all, one_step, started}
 use Rattle.grammar_core.proofs.machine.run.Goals as goal
 

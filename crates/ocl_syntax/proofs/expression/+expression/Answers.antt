@@ -1,6 +1,6 @@
 use Rattle.std.proofs.Common.{◌≡◌, ◌++◌, [], ◌∷◌, IfOk, subst, sym, ap, ◌∙◌}
 use Rattle.ocl_syntax.specs.declared.layer.Behind.TheVariants.{Step}
-use Rattle.ocl_syntax.specs.declared.layer.Piece.TheVariants.{Binds, Node, Row}
+use Rattle.ocl_syntax.specs.declared.layer.Piece.TheVariants.{Node, Row}
 use Rattle.ocl_syntax.specs.Expressions.{layered}
 use Rattle.ocl_syntax.specs.Layers.{node_layer}
 use Rattle.ocl_syntax.proofs.Fuel.{at_binds, at_node, at_row, expression_none}
