@@ -15,7 +15,7 @@ use Rattle.object_state.specs.declared.layout.Layout.{Layout}
 use Rattle.object_state.specs.declared.objects.Object.{Object}
 use Rattle.object_state.specs.Layouts.{is_a}
 use Rattle.object_state.specs.Looks.{end_of, has_at}
-use Rattle.object_state.specs.State.{link_cmp, text_cmp}
+use Rattle.object_state.specs.State.{link_cmp}
 
 -- an association and the pair that it links; an association, an object and a stamp
 abbrev pub pair_cmp : ℕ × (ℕ × ℕ) → ℕ × (ℕ × ℕ) → Ordering
@@ -85,12 +85,11 @@ abbrev pub is_one : List ℕ → ℕ → ℕ → ℕ → Bool
 is_one classes object c o = nat_eq o object && list_any (nat_eq c) classes
 
 -- objects, with the numbers of names, and the objects of each class
-pub record ObjectsAreTied (l : Layout) (objects : List (ℕ × Object)) (names : List (List ℕ × ℕ)) (extents : List (ℕ × ℕ)) : Type 0 where
+pub record ObjectsAreTied (l : Layout) (objects : List (ℕ × Object)) (numbers : List ℕ → Option ℕ) (extents : List (ℕ × ℕ)) : Type 0 where
   pub ordered : IsStrictlySortedBy nat_cmp (keys_of objects)
-  pub names_ordered : IsStrictlySortedBy text_cmp (keys_of names)
   pub extents_ordered : IsStrictlySortedBy link_cmp extents
   pub small : (o : ℕ) (x : Object) → object_in objects o ≡ Some x → o < 2 ^ 32
-  pub names_tied : (name : List ℕ) (o : ℕ) → (lookup (is_at (text_cmp name)) names ≡ Some o) ↔ (option_map (λ x. x.name) (object_in objects o) ≡ Some name)
+  pub names_tied : (name : List ℕ) (o : ℕ) → (numbers name ≡ Some o) ↔ (option_map (λ x. x.name) (object_in objects o) ≡ Some name)
   pub extents_tied : (c o : ℕ) → has_pair extents c o ≡ has_class l (object_in objects o) c
 
 -- the number of the object of a name, and the objects of a class and its descendants

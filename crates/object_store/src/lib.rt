@@ -4,6 +4,7 @@
 mod entries;
 mod extents;
 mod link_table;
+mod names;
 mod object_table;
 mod store;
 mod store_changes;

@@ -1,24 +1,26 @@
-ghost use Rattle.std.specs.Prelude.{◌≡◌, ◌<◌, ◌^◌, ℕ, [], true, false, IfOk, OnOk, OnErr, None, Some, length, map, nat_eq};
+ghost use Rattle.std.specs.Prelude.{◌≡◌, ◌<◌, ◌^◌, List, ℕ, [], true, false, IfOk, OnOk, OnErr, None, Some, length, map, nat_eq};
 ghost use Rattle.std.specs.BTreeMap.{insert_entry, is_at};
+ghost use Rattle.std.specs.HashMap.{get_by_text};
 ghost use Rattle.std.specs.List.{list_any};
 ghost use Rattle.std.specs.List.Sorted.{IsStrictlySortedBy};
-ghost use Rattle.std.specs.Map.{keys_of, lookup, remove_entry, set_value};
+ghost use Rattle.std.specs.Map.{keys_of, remove_entry, set_value, update};
 ghost use Rattle.std.specs.Option.{option_copied, option_map_or};
 ghost use Rattle.std.specs.Ordering.{nat_cmp};
+ghost use Rattle.std.specs.Str.{bytes_eq};
 ghost use Rattle.ocl_values.specs.declared.value.Value.TheVariants.{Obj};
 ghost use Rattle.object_state.specs.Changes.{object_of, with_slot};
 ghost use Rattle.object_state.specs.Layouts.{ancestors};
-ghost use Rattle.object_state.specs.State.{link_cmp, text_cmp};
+ghost use Rattle.object_state.specs.State.{link_cmp};
 ghost use Rattle.object_store.specs.Indexes.{extent_in, has_pair, is_one, named_in, object_in};
 
 use crate::entries::{put, take};
 use crate::extents::{Extents, objects_of, put_extents, take_extents};
-use crate::text_map::TextMap;
+use crate::names::{Numbers, put_name, take_name};
 use class_model::{AttrNo, ClassNo};
 use object_state::{Layout, Object, ObjectChange, object_of, set_slot};
 use ocl_values::{ObjNo, Value};
 use std::alloc::{AllocError, Global};
-use std::collections::{BTreeMap, BTreeSet};
+use std::collections::{BTreeMap, BTreeSet, HashMap};
 use std::marker::Model;
 
 /// Objects by number. Contracts see the list of them in that order, and the layout.
@@ -27,12 +29,13 @@ pub(crate) struct ObjectTable {
     layout: Layout,
     objects: BTreeMap<ObjNo, Object>,
     /// The objects of names.
-    names: TextMap<ObjNo>,
+    names: Numbers,
     extents: Extents,
 }
 
 impl Model for ObjectTable {
     ghost use Rattle.std.specs.Coded.{codes};
+    ghost use Rattle.std.specs.HashMap.{get_by_text};
     ghost use Rattle.ocl_values.specs.contracts.value.Value as values;
     ghost use Rattle.object_store.specs.Indexes.{Objects, ObjectsAreTied};
 
@@ -42,7 +45,7 @@ impl Model for ObjectTable {
 
     ghost view = { λ t. record { layout = t.layout; objects = t.objects.entries } };
 
-    ghost invariant = { λ t. ObjectsAreTied t.layout t.objects.entries t.names t.extents.keys };
+    ghost invariant = { λ t. ObjectsAreTied t.layout t.objects.entries (get_by_text t.names) t.extents.keys };
 }
 
 /// Stores a value in the object of a number, where it is live and has the attribute.
@@ -66,29 +69,29 @@ fn set_slot_of(
 fn put_indexes(
     alloc: Global,
     layout: &Layout,
-    names: &mut TextMap<ObjNo>,
+    names: &mut Numbers,
     extents: &mut Extents,
     new: &ObjectChange,
 ) -> Result<(), AllocError>
     requires ordered { IsStrictlySortedBy link_cmp extents.old.keys }
-    requires fresh { lookup (is_at (text_cmp new.now.name)) names.old ≡ None }
+    requires fresh { get_by_text names.old new.now.name ≡ None }
     requires free { (c : ℕ) → has_pair extents.old.keys c new.now.object ≡ false }
     ensures ordered { IsStrictlySortedBy link_cmp extents.new.keys }
     ensures others { (c o : ℕ) → is_one (ancestors layout.now new.now.class) new.now.object c o ≡ false
         → has_pair extents.new.keys c o ≡ has_pair extents.old.keys c o }
     ensures small { OnOk result (new.now.object < 2 ^ 32) }
-    ensures named { OnOk result (names.new ≡ insert_entry text_cmp names.old new.now.name new.now.object) }
+    ensures named { OnOk result ((n : List ℕ) → get_by_text names.new n ≡ update bytes_eq (get_by_text names.old) new.now.name (Some new.now.object) n) }
     ensures there { OnOk result ((c : ℕ) → list_any (nat_eq c) (ancestors layout.now new.now.class) ≡ true
         → has_pair extents.new.keys c new.now.object ≡ true) }
-    ensures no_name { OnErr result (names.new ≡ names.old) }
+    ensures no_name { OnErr result ((n : List ℕ) → get_by_text names.new n ≡ get_by_text names.old n) }
     ensures gone { OnErr result ((c : ℕ) → list_any (nat_eq c) (ancestors layout.now new.now.class) ≡ true
         → has_pair extents.new.keys c new.now.object ≡ false) }
 {
-    names.insert(alloc, new.name.as_str(), new.object)?;
+    put_name(alloc, names, new.name.as_str(), new.object)?;
     match put_extents(extents, layout.ancestors(new.class), new.object) {
         Ok(()) => Ok(()),
         Err(refused) => {
-            names.remove(new.name.as_str());
+            take_name(names, new.name.as_str());
             Err(refused)
         }
     }
@@ -102,7 +105,7 @@ impl ObjectTable {
         ObjectTable {
             layout,
             objects: BTreeMap::new(alloc),
-            names: TextMap::new(alloc),
+            names: HashMap::new(alloc),
             extents: BTreeSet::new(alloc),
         }
     }
@@ -172,7 +175,7 @@ impl ObjectTable {
         ensures { self.new ≡ record self.old { objects = remove_entry (is_at (nat_cmp old.now.object)) self.old.objects } }
     {
         take(&mut self.objects, old.object);
-        self.names.remove(old.name.as_str());
+        take_name(&mut self.names, old.name.as_str());
         take_extents(
             &mut self.extents,
             self.layout.ancestors(old.class),

@@ -1,23 +1,24 @@
 use Rattle.std.proofs.Common.{◌≡◌, ◌∙◌, ap, refl, subst, true, false, ℕ, List}
-use Rattle.std.specs.BTreeMap.{is_at}
+use Rattle.std.specs.HashMap.{get_by_text}
 use Rattle.std.specs.List.{list_any}
-use Rattle.std.specs.Map.{remove_entry}
-use Rattle.std.specs.Prelude.{nat_eq}
-use Rattle.object_state.specs.State.{text_cmp}
+use Rattle.std.specs.Map.{update}
+use Rattle.std.specs.Prelude.{None, nat_eq}
+use Rattle.std.specs.Str.{bytes_eq}
 use Rattle.object_store.specs.Indexes.{Objects, has_pair, is_one, object_in}
 use Rattle.object_store.proofs.Tables.{object_less, tied_with}
 use Rattle.object_store.proofs.object_table.ObjectTable.remove.Goals as goal
 
 pub invariant_of-self : goal.invariant_of-self
 invariant_of-self c =
-    tied_with c.self.inside.layout _ c.take.new.map.entries _ c.remove.new.self c.take_extents.new.extents.keys c.take_extents.new.extents.keys
+    tied_with c.self.inside.layout _ c.take.new.map.entries _ (get_by_text c.take_name.new.numbers) c.take_extents.new.extents.keys c.take_extents.new.extents.keys
     c.take.ensures
-    (c.remove.ensures ∙ ap (λ (n : List ℕ). remove_entry (is_at (text_cmp n)) c.self.inside.names) c.as_str.ensures)
-    refl
-    (object_less c.self.inside.layout c.self.inside.objects.entries c.self.inside.names c.self.inside.extents.keys c.self.invariant
+    (λ n. refl) refl
+    (object_less c.self.inside.layout c.self.inside.objects.entries (get_by_text c.self.inside.names) c.self.inside.extents.keys c.self.invariant
     c.take_extents.new.extents.keys c.take_extents.ensures.ordered c.args.old.now
     (subst (λ (ks : List ℕ). (k o : ℕ) → is_one ks c.args.old.now.object k o ≡ false
     → has_pair c.take_extents.new.extents.keys k o ≡ has_pair c.self.inside.extents.keys k o) c.ancestors.ensures c.take_extents.ensures.others)
+    (get_by_text c.take_name.new.numbers)
+    (λ n. c.take_name.ensures n ∙ ap (λ (m : List ℕ). update bytes_eq (get_by_text c.self.inside.names) m None n) c.as_str.ensures)
     (subst (λ (ks : List ℕ). (k : ℕ) → list_any (nat_eq k) ks ≡ true → has_pair c.take_extents.new.extents.keys k c.args.old.now.object ≡ false)
     c.ancestors.ensures c.take_extents.ensures.gone)
     (ap (λ (t : Objects). object_in t.objects c.args.old.now.object) c.self.view_is ∙ c.requires))
