@@ -4,6 +4,7 @@ use Rattle.std.specs.BTreeMap.{is_at}
 use Rattle.std.specs.Cmp.Lexicographic.{pointwise}
 use Rattle.std.specs.List.{position}
 use Rattle.std.specs.Map.{lookup}
+use Rattle.std.specs.Option.{ForSome}
 use Rattle.use_orders.specs.Canon.{all_differ}
 use Rattle.object_state.specs.State.{text_cmp}
 use Rattle.soil_exec.specs.declared.shell.Shell.TheInside.{Inside}
@@ -12,7 +13,7 @@ use Rattle.soil_exec.specs.declared.shell.Shell.TheInside.{Inside}
 abbrev pub AreFound : List (List ℕ) → List (List ℕ × ℕ) → Type 0
 AreFound names places = (name : List ℕ) → lookup (is_at (text_cmp name)) places ≡ position (pointwise nat_eq name) names
 
--- and no two are one
+-- where there is an index; and no two are one
 pub record IsFound (s : Inside) : Type 0 where
-  pub found : AreFound s.names s.places.entries
+  pub found : ForSome s.places (λ m. AreFound s.names m.entries)
   pub differ : all_differ text_cmp s.names ≡ true

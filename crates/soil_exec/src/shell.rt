@@ -1,6 +1,9 @@
 ghost use Rattle.std.specs.Prelude.{◌≡◌, ◌<◌, ◌^◌, IfOk, length, nat_eq, true};
 ghost use Rattle.std.specs.Cmp.Lexicographic.{pointwise};
+ghost use Rattle.std.specs.BTreeMap.{is_at};
 ghost use Rattle.std.specs.List.{position};
+ghost use Rattle.std.specs.Map.{lookup};
+ghost use Rattle.std.specs.Option.{ForSome};
 ghost use Rattle.use_orders.specs.Canon.{all_differ};
 ghost use Rattle.object_state.specs.State.{text_cmp};
 ghost use Rattle.soil_exec.specs.Found.{AreFound};
@@ -15,8 +18,8 @@ use use_lists::Items;
 #[derive(Drop)]
 pub(crate) struct Shell {
     names: Items<Text>,
-    /// Where each name stands.
-    places: BTreeMap<Text, u32>,
+    /// Where each name stands, unless they are few.
+    places: Option<BTreeMap<Text, u32>>,
 }
 
 impl Model for Shell {
@@ -29,6 +32,9 @@ impl Model for Shell {
 
     ghost invariant = { IsFound };
 }
+
+/// So many names are compared one by one.
+const FEW: usize = 8;
 
 /// Where each name stands.
 fn places_of(alloc: Global, names: &[Text]) -> Result<BTreeMap<Text, u32>, AllocError>
@@ -45,13 +51,41 @@ fn places_of(alloc: Global, names: &[Text]) -> Result<BTreeMap<Text, u32>, Alloc
     Ok(places)
 }
 
+/// Where each name stands, unless they are few.
+fn index_of(alloc: Global, names: &[Text]) -> Result<Option<BTreeMap<Text, u32>>, AllocError>
+    requires { length names.now < 2 ^ 32 }
+    ensures { IfOk result (λ index. ForSome index (λ m. AreFound names.now m.entries)) }
+{
+    if names.len() <= FEW {
+        return Ok(None);
+    }
+    Ok(Some(places_of(alloc, names)?))
+}
+
+/// Where a name stands among few.
+fn place_among(names: &[Text], name: &Text) -> Option<usize>
+    ensures { result ≡ position (pointwise nat_eq name.now) names.now }
+{
+    names.iter().position(|other| name == other)
+}
+
+/// Where a name stands, by the index of names.
+fn place_in(places: &BTreeMap<Text, u32>, name: &Text) -> Option<usize>
+    ensures { result ≡ lookup (is_at (text_cmp name.now)) places.now.entries }
+{
+    match places.get(name) {
+        None => None,
+        Some(place) => Some(*place as usize),
+    }
+}
+
 impl Shell {
     pub(crate) fn new(alloc: Global, names: Items<Text>) -> Result<Shell, AllocError>
         requires few { length names < 2 ^ 32 }
         requires differ { all_differ text_cmp names ≡ true }
         ensures { IfOk result (λ s. s ≡ names) }
     {
-        let places = places_of(alloc, names.as_slice())?;
+        let places = index_of(alloc, names.as_slice())?;
         Ok(Shell { names, places })
     }
 
@@ -78,9 +112,9 @@ impl Shell {
     pub(crate) fn place_of(&self, name: &Text) -> Option<usize>
         ensures { result ≡ position (pointwise nat_eq name.now) self.now }
     {
-        match self.places.get(name) {
-            None => None,
-            Some(place) => Some(*place as usize),
+        match &self.places {
+            None => place_among(self.names.as_slice(), name),
+            Some(places) => place_in(places, name),
         }
     }
 }
