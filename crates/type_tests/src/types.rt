@@ -244,23 +244,71 @@ fn other_in_session(alloc: Global, rows: &[Row]) -> Result<Option<String>, Fail>
     }
 }
 
-#[test]
-fn queries_without_variables(rt: HostRuntime) -> Result<(), Fail> {
-    let other = first_other(rt.alloc(), false, rows::QUERIED)?;
-    assert_eq!(rt; other.as_ref().map(|s| s.as_str()), None);
-    Ok(())
+// What the first table finds that has such a row.
+fn other_of_tables(alloc: Global) -> Result<Option<String>, Fail> {
+    'tables: for (shows, is_post, rows) in [
+        ("queries without variables", false, rows::QUERIED),
+        ("operations of values one by one", false, rows::OF_VALUES),
+        (
+            "operations of collections one by one",
+            false,
+            rows::OF_COLLECTIONS,
+        ),
+        ("names that stand for nothing", false, rows::NAMES),
+        (
+            "properties that values do not have",
+            false,
+            rows::PROPERTIES,
+        ),
+        (
+            "literals that no enumeration has or more than one",
+            false,
+            rows::LITERALS,
+        ),
+        ("operands of the wrong type", false, rows::OPERANDS),
+        (
+            "more or fewer arguments than parameters",
+            false,
+            rows::COUNTS,
+        ),
+        ("arguments of the wrong type", false, rows::ARGUMENTS),
+        ("conditions that are not boolean", false, rows::CONDITIONS),
+        ("values that do not conform", false, rows::VALUES),
+        (
+            "operations that are not for the collection",
+            false,
+            rows::COLLECTIONS,
+        ),
+        ("iterators that are not well formed", false, rows::ITERATORS),
+        (
+            "types where values are wanted and the contrary",
+            false,
+            rows::TYPES,
+        ),
+        ("operations that are no queries", false, rows::QUERIES),
+        (
+            "instances of other types than classes",
+            false,
+            rows::INSTANCES,
+        ),
+        ("what stands in postconditions alone", false, rows::BEFORE),
+        (
+            "what postconditions ask of the state before",
+            true,
+            rows::IN_POSTCONDITIONS,
+        ),
+        ("the first rule that is broken is told", false, rows::FIRST),
+    ] {
+        if let Some(found) = first_other(alloc, is_post, rows)? {
+            return Ok(Some(format!(in alloc; "{shows}: {}", found.as_str())?));
+        }
+    }
+    Ok(None)
 }
 
 #[test]
-fn operations_of_values_one_by_one(rt: HostRuntime) -> Result<(), Fail> {
-    let other = first_other(rt.alloc(), false, rows::OF_VALUES)?;
-    assert_eq!(rt; other.as_ref().map(|s| s.as_str()), None);
-    Ok(())
-}
-
-#[test]
-fn operations_of_collections_one_by_one(rt: HostRuntime) -> Result<(), Fail> {
-    let other = first_other(rt.alloc(), false, rows::OF_COLLECTIONS)?;
+fn queries_are_typed_or_refused(rt: HostRuntime) -> Result<(), Fail> {
+    let other = other_of_tables(rt.alloc())?;
     assert_eq!(rt; other.as_ref().map(|s| s.as_str()), None);
     Ok(())
 }
@@ -268,118 +316,6 @@ fn operations_of_collections_one_by_one(rt: HostRuntime) -> Result<(), Fail> {
 #[test]
 fn queries_of_a_session(rt: HostRuntime) -> Result<(), Fail> {
     let other = other_in_session(rt.alloc(), rows::IN_SESSION)?;
-    assert_eq!(rt; other.as_ref().map(|s| s.as_str()), None);
-    Ok(())
-}
-
-#[test]
-fn names_that_stand_for_nothing(rt: HostRuntime) -> Result<(), Fail> {
-    let other = first_other(rt.alloc(), false, rows::NAMES)?;
-    assert_eq!(rt; other.as_ref().map(|s| s.as_str()), None);
-    Ok(())
-}
-
-#[test]
-fn properties_that_values_do_not_have(rt: HostRuntime) -> Result<(), Fail> {
-    let other = first_other(rt.alloc(), false, rows::PROPERTIES)?;
-    assert_eq!(rt; other.as_ref().map(|s| s.as_str()), None);
-    Ok(())
-}
-
-#[test]
-fn literals_that_no_enumeration_has_or_more_than_one(rt: HostRuntime) -> Result<(), Fail> {
-    let other = first_other(rt.alloc(), false, rows::LITERALS)?;
-    assert_eq!(rt; other.as_ref().map(|s| s.as_str()), None);
-    Ok(())
-}
-
-#[test]
-fn operands_of_the_wrong_type(rt: HostRuntime) -> Result<(), Fail> {
-    let other = first_other(rt.alloc(), false, rows::OPERANDS)?;
-    assert_eq!(rt; other.as_ref().map(|s| s.as_str()), None);
-    Ok(())
-}
-
-#[test]
-fn more_or_fewer_arguments_than_parameters(rt: HostRuntime) -> Result<(), Fail> {
-    let other = first_other(rt.alloc(), false, rows::COUNTS)?;
-    assert_eq!(rt; other.as_ref().map(|s| s.as_str()), None);
-    Ok(())
-}
-
-#[test]
-fn arguments_of_the_wrong_type(rt: HostRuntime) -> Result<(), Fail> {
-    let other = first_other(rt.alloc(), false, rows::ARGUMENTS)?;
-    assert_eq!(rt; other.as_ref().map(|s| s.as_str()), None);
-    Ok(())
-}
-
-#[test]
-fn conditions_that_are_not_boolean(rt: HostRuntime) -> Result<(), Fail> {
-    let other = first_other(rt.alloc(), false, rows::CONDITIONS)?;
-    assert_eq!(rt; other.as_ref().map(|s| s.as_str()), None);
-    Ok(())
-}
-
-#[test]
-fn values_that_do_not_conform(rt: HostRuntime) -> Result<(), Fail> {
-    let other = first_other(rt.alloc(), false, rows::VALUES)?;
-    assert_eq!(rt; other.as_ref().map(|s| s.as_str()), None);
-    Ok(())
-}
-
-#[test]
-fn operations_that_are_not_for_the_collection(rt: HostRuntime) -> Result<(), Fail> {
-    let other = first_other(rt.alloc(), false, rows::COLLECTIONS)?;
-    assert_eq!(rt; other.as_ref().map(|s| s.as_str()), None);
-    Ok(())
-}
-
-#[test]
-fn iterators_that_are_not_well_formed(rt: HostRuntime) -> Result<(), Fail> {
-    let other = first_other(rt.alloc(), false, rows::ITERATORS)?;
-    assert_eq!(rt; other.as_ref().map(|s| s.as_str()), None);
-    Ok(())
-}
-
-#[test]
-fn types_where_values_are_wanted_and_the_contrary(rt: HostRuntime) -> Result<(), Fail> {
-    let other = first_other(rt.alloc(), false, rows::TYPES)?;
-    assert_eq!(rt; other.as_ref().map(|s| s.as_str()), None);
-    Ok(())
-}
-
-#[test]
-fn operations_that_are_no_queries(rt: HostRuntime) -> Result<(), Fail> {
-    let other = first_other(rt.alloc(), false, rows::QUERIES)?;
-    assert_eq!(rt; other.as_ref().map(|s| s.as_str()), None);
-    Ok(())
-}
-
-#[test]
-fn instances_of_other_types_than_classes(rt: HostRuntime) -> Result<(), Fail> {
-    let other = first_other(rt.alloc(), false, rows::INSTANCES)?;
-    assert_eq!(rt; other.as_ref().map(|s| s.as_str()), None);
-    Ok(())
-}
-
-#[test]
-fn what_stands_in_postconditions_alone(rt: HostRuntime) -> Result<(), Fail> {
-    let other = first_other(rt.alloc(), false, rows::BEFORE)?;
-    assert_eq!(rt; other.as_ref().map(|s| s.as_str()), None);
-    Ok(())
-}
-
-#[test]
-fn what_postconditions_ask_of_the_state_before(rt: HostRuntime) -> Result<(), Fail> {
-    let other = first_other(rt.alloc(), true, rows::IN_POSTCONDITIONS)?;
-    assert_eq!(rt; other.as_ref().map(|s| s.as_str()), None);
-    Ok(())
-}
-
-#[test]
-fn the_first_rule_that_is_broken_is_told(rt: HostRuntime) -> Result<(), Fail> {
-    let other = first_other(rt.alloc(), false, rows::FIRST)?;
     assert_eq!(rt; other.as_ref().map(|s| s.as_str()), None);
     Ok(())
 }
