@@ -87,6 +87,7 @@ fn of_one(op: IntOp, a: i128) -> Value
     }
 }
 
+#[inline(always)]
 fn of_two(op: IntOp, a: i128, b: i128) -> Value
     ensures { result ≡ of_two op a b }
 {
@@ -109,6 +110,7 @@ fn of_two(op: IntOp, a: i128, b: i128) -> Value
 
 /// An operation of Integer. One of a single integer does not look at b. A side that is null,
 /// invalid or no integer makes the result invalid, and so does a result past the range.
+#[inline(always)]
 pub fn int_op(op: IntOp, a: &Value, b: &Value) -> Value
     ensures value { result ≡ int_op_value op a.now b.now }
     ensures well_made { IsWellMade result }

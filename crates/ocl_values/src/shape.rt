@@ -10,6 +10,7 @@ use use_orders::TryCopy;
 /// The size of a value: 1, and for a String its bytes, for a collection the sizes of its elements.
 /// Sizes past 2^64 - 1 count as that.
 #[cycle(size)]
+#[inline(always)]
 pub fn size(v: &Value) -> u64
     ensures { result ≡ min (size_of v.now) (2 ^ 64 - 1) }
 {
@@ -34,6 +35,7 @@ fn sizes(all: &[Value]) -> u64
 impl Value {
     /// An equal value.
     #[cycle(copy)]
+    #[inline(always)]
     pub fn try_copy(&self, alloc: Global) -> Result<Value, AllocError>
         ensures { IfOk result (λ v. v ≡ self.now) }
     {
