@@ -1,6 +1,7 @@
 pub mod Evaluations
 pub mod Scenes
 pub mod Nodes
+pub mod Places
 pub mod Integers
 pub mod Walks
 pub mod Evaluation

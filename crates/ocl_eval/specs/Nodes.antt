@@ -114,12 +114,16 @@ module _ (ev : List Value → Expr → Evaluation Value) (env : List Value) wher
   values = walk never add_value
 
   -- an operation of a source and its arguments
+  abbrev pub applied : (Value → List Value → Value) → Value → List Expr → Evaluation Value
+  applied apply x args = do
+    xs ← values [] args
+    pay (apply x xs)
+
   abbrev pub operation : (Value → List Value → Value) → List Expr → Evaluation Value
   operation apply [] = pay Invalid
   operation apply (a ∷ args) = do
     x ← ev env a
-    xs ← values [] args
-    pay (apply x xs)
+    applied apply x args
 
   unfoldable pub plain : PlainOp → List Expr → Evaluation Value
   plain op all = operation (plain_value op) all

@@ -61,6 +61,7 @@ fn ready(e: &Expr, locals: &Values) -> Option<i128>
 }
 
 /// An operation of the integers that its operands are; an operand that is none makes it invalid.
+#[inline(always)]
 fn of_integers(op: IntOp, x: Option<i128>, y: Option<i128>) -> Value
     ensures value { result ≡ of_integers op x y }
     ensures well_made { IsWellMade result }

@@ -1,10 +1,11 @@
-ghost use Rattle.std.specs.Prelude.{◌≡◌, ◌+◌, ◌∷◌, [], length, map, true, false, All, IfOk, MatchOption, ⊤};
+ghost use Rattle.std.specs.Prelude.{◌≡◌, ◌+◌, ◌<◌, ◌∷◌, [], length, map, true, false, All, IfOk, MatchOption, OnOk, ⊤};
 ghost use Rattle.std.specs.Option.{option_copied};
 ghost use Rattle.ocl_values.specs.Shape.{IsWellMade};
 ghost use Rattle.ocl_values.specs.declared.value.Value.TheVariants.{Coll};
 ghost use Rattle.ocl_eval.specs.Parts.{Evaluates, ev_in};
-ghost use Rattle.ocl_eval.specs.Evaluations.{Gives};
+ghost use Rattle.ocl_eval.specs.Evaluations.{Gives, GivesAs};
 ghost use Rattle.ocl_eval.specs.Nodes.{gathered, iterate, iterate_step, iterator, maybe, over, over_source, visit, visits, unvisited};
+ghost use Rattle.ocl_eval.specs.Places.{front};
 ghost use Rattle.ocl_eval.specs.Walks.{visits_pairs, visits_with};
 ghost use Rattle.ocl_operations.specs.Iterators.{bindings, may_have, takes_all};
 ghost use Rattle.ocl_core.specs.Trees.{IsSound};
@@ -22,13 +23,46 @@ impl<S, V: States<S>, F> Node<'_, S, V, F>
 where
     F: Fn(&Setting<'_, V>, &Expr, &mut Values, &mut Meter, &mut S) -> Result<Value, Stop>,
 {
-    /// The value of the body for one element.
+    /// Adds the value of the body for one element, which takes the innermost place.
+    #[inline]
     fn visit(
         &self,
         op: IterOp,
         body: &Expr,
-        before: Visited,
+        seen: &mut Visited,
         x: &Value,
+        locals: &mut Values,
+        meter: &mut Meter,
+        steps: &mut S,
+    ) -> Result<(), Stop>
+        requires parts { Evaluates V.now V.pre V.count self.now.setting.levels (F.pre self.now.value) (F.post self.now.value) }
+        requires program { IsSoundProgram self.now.setting.program.now }
+        requires tree { IsSound body.now }
+        requires well { IsWellMade x.now }
+        requires place { 0 < length locals.old }
+        ensures value { GivesAs (λ u. seen.new) (visit (ev_in V.now V.pre self.now.setting) (front 1 locals.old) op body.now seen.old (x.now ∷ []) meter.old) result meter.new }
+        ensures one { OnOk result (length seen.new.values ≡ length seen.old.values + 1) }
+        ensures goes { takes_all op ≡ true → OnOk result (seen.new.ended ≡ false) }
+        ensures others { front 1 locals.new ≡ front 1 locals.old }
+        ensures places { length locals.new ≡ length locals.old }
+        ensures ticks { V.count steps.new + meter.new.fuel ≡ V.count steps.old + meter.old.fuel }
+    {
+        let x = x.try_copy(self.setting.alloc)?;
+        locals.set_last(x);
+        let value = self.part(body, locals, meter, steps)?;
+        seen.ended = ends_walk(op, &value);
+        seen.values.push(value)?;
+        Ok(())
+    }
+
+    /// The values of the body for each element in turn, which takes the innermost place.
+    #[tactic(auto, unfolding(crate::specs::Nodes::visits))]
+    fn visits_in_place(
+        &self,
+        op: IterOp,
+        body: &Expr,
+        before: Visited,
+        items: &[Value],
         locals: &mut Values,
         meter: &mut Meter,
         steps: &mut S,
@@ -36,23 +70,28 @@ where
         requires parts { Evaluates V.now V.pre V.count self.now.setting.levels (F.pre self.now.value) (F.post self.now.value) }
         requires program { IsSoundProgram self.now.setting.program.now }
         requires tree { IsSound body.now }
-        requires well { IsWellMade x.now }
-        ensures value { Gives (visit (ev_in V.now V.pre self.now.setting) locals.old op body.now before (x.now ∷ []) meter.old) result meter.new }
-        ensures one { IfOk result (λ seen. length seen.values ≡ length before.values + 1) }
-        ensures goes { takes_all op ≡ true → IfOk result (λ seen. seen.ended ≡ false) }
-        ensures locals { locals.new ≡ locals.old }
+        requires well { All IsWellMade items.now }
+        requires place { 0 < length locals.old }
+        ensures value { Gives (visits (ev_in V.now V.pre self.now.setting) (front 1 locals.old) op body.now before (map
+            (λ x. x ∷ []) items.now) meter.old) result meter.new }
+        ensures every { takes_all op ≡ true → before.ended ≡ false → IfOk result (λ seen. length seen.values ≡ length before.values + length items.now) }
+        ensures others { front 1 locals.new ≡ front 1 locals.old }
+        ensures places { length locals.new ≡ length locals.old }
         ensures ticks { V.count steps.new + meter.new.fuel ≡ V.count steps.old + meter.old.fuel }
     {
         let mut seen = before;
-        let x = x.try_copy(self.setting.alloc)?;
-        let value = self.bound(x, body, locals, meter, steps)?;
-        seen.ended = ends_walk(op, &value);
-        seen.values.push(value)?;
+        let mut rest = items;
+        'elements: while let [x, more @ ..] = rest {
+            if seen.ended {
+                return Ok(seen);
+            }
+            self.visit(op, body, &mut seen, x, locals, meter, steps)?;
+            rest = more;
+        }
         Ok(seen)
     }
 
     /// The values of the body for each element in turn.
-    #[tactic(auto, unfolding(crate::specs::Nodes::visits))]
     fn visits(
         &self,
         op: IterOp,
@@ -73,16 +112,10 @@ where
         ensures locals { locals.new ≡ locals.old }
         ensures ticks { V.count steps.new + meter.new.fuel ≡ V.count steps.old + meter.old.fuel }
     {
-        let mut seen = before;
-        let mut rest = items;
-        'elements: while let [x, more @ ..] = rest {
-            if seen.ended {
-                return Ok(seen);
-            }
-            seen = self.visit(op, body, seen, x, locals, meter, steps)?;
-            rest = more;
-        }
-        Ok(seen)
+        locals.push(Value::Null)?;
+        let seen = self.visits_in_place(op, body, before, items, locals, meter, steps);
+        locals.drop_last();
+        seen
     }
 
     /// The values of the body for the pairs of one first element.
@@ -145,7 +178,8 @@ where
         Ok(seen)
     }
 
-    /// One turn of `iterate`.
+    /// One turn of `iterate`, whose variable and accumulator take the innermost places.
+    #[inline]
     fn turn(
         &self,
         body: &Expr,
@@ -160,18 +194,78 @@ where
         requires tree { IsSound body.now }
         requires acc { IsWellMade acc }
         requires well { IsWellMade x.now }
-        ensures value { Gives (iterate_step (ev_in V.now V.pre self.now.setting) locals.old body.now acc x.now meter.old) result meter.new }
+        requires place { 1 < length locals.old }
+        ensures value { Gives (iterate_step (ev_in V.now V.pre self.now.setting) (front 2 locals.old) body.now acc x.now meter.old) result meter.new }
         ensures well_made { IfOk result IsWellMade }
-        ensures locals { locals.new ≡ locals.old }
+        ensures others { front 2 locals.new ≡ front 2 locals.old }
+        ensures places { length locals.new ≡ length locals.old }
         ensures ticks { V.count steps.new + meter.new.fuel ≡ V.count steps.old + meter.old.fuel }
     {
-        locals.push(x.try_copy(self.setting.alloc)?)?;
-        let value = self.bound(acc, body, locals, meter, steps);
-        locals.pop();
+        let x = x.try_copy(self.setting.alloc)?;
+        locals.set_last_two(x, acc);
+        self.part(body, locals, meter, steps)
+    }
+
+    /// `iterate` where the innermost places are free for its variable and accumulator.
+    #[tactic(auto, unfolding(crate::specs::Nodes::iterate))]
+    fn iterate_in_place(
+        &self,
+        body: &Expr,
+        start: Value,
+        items: &[Value],
+        locals: &mut Values,
+        meter: &mut Meter,
+        steps: &mut S,
+    ) -> Result<Value, Stop>
+        requires parts { Evaluates V.now V.pre V.count self.now.setting.levels (F.pre self.now.value) (F.post self.now.value) }
+        requires program { IsSoundProgram self.now.setting.program.now }
+        requires tree { IsSound body.now }
+        requires start { IsWellMade start }
+        requires well { All IsWellMade items.now }
+        requires place { 1 < length locals.old }
+        ensures value { Gives (iterate (ev_in V.now V.pre self.now.setting) (front 2 locals.old) body.now start items.now meter.old) result meter.new }
+        ensures well_made { IfOk result IsWellMade }
+        ensures others { front 2 locals.new ≡ front 2 locals.old }
+        ensures places { length locals.new ≡ length locals.old }
+        ensures ticks { V.count steps.new + meter.new.fuel ≡ V.count steps.old + meter.old.fuel }
+    {
+        let mut acc = start;
+        let mut rest = items;
+        'elements: while let [x, more @ ..] = rest {
+            acc = self.turn(body, acc, x, locals, meter, steps)?;
+            rest = more;
+        }
+        Ok(acc)
+    }
+
+    /// `iterate` where the innermost place is free for its variable.
+    fn iterate_inside(
+        &self,
+        body: &Expr,
+        start: Value,
+        items: &[Value],
+        locals: &mut Values,
+        meter: &mut Meter,
+        steps: &mut S,
+    ) -> Result<Value, Stop>
+        requires parts { Evaluates V.now V.pre V.count self.now.setting.levels (F.pre self.now.value) (F.post self.now.value) }
+        requires program { IsSoundProgram self.now.setting.program.now }
+        requires tree { IsSound body.now }
+        requires start { IsWellMade start }
+        requires well { All IsWellMade items.now }
+        requires place { 0 < length locals.old }
+        ensures value { Gives (iterate (ev_in V.now V.pre self.now.setting) (front 1 locals.old) body.now start items.now meter.old) result meter.new }
+        ensures well_made { IfOk result IsWellMade }
+        ensures others { front 1 locals.new ≡ front 1 locals.old }
+        ensures places { length locals.new ≡ length locals.old }
+        ensures ticks { V.count steps.new + meter.new.fuel ≡ V.count steps.old + meter.old.fuel }
+    {
+        locals.push(Value::Null)?;
+        let value = self.iterate_in_place(body, start, items, locals, meter, steps);
+        locals.drop_last();
         value
     }
 
-    #[tactic(auto, unfolding(crate::specs::Nodes::iterate))]
     fn iterate(
         &self,
         body: &Expr,
@@ -191,13 +285,10 @@ where
         ensures locals { locals.new ≡ locals.old }
         ensures ticks { V.count steps.new + meter.new.fuel ≡ V.count steps.old + meter.old.fuel }
     {
-        let mut acc = start;
-        let mut rest = items;
-        'elements: while let [x, more @ ..] = rest {
-            acc = self.turn(body, acc, x, locals, meter, steps)?;
-            rest = more;
-        }
-        Ok(acc)
+        locals.push(Value::Null)?;
+        let value = self.iterate_inside(body, start, items, locals, meter, steps);
+        locals.drop_last();
+        value
     }
 
     /// The start of `iterate`, if there is one.

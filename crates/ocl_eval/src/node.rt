@@ -2,7 +2,10 @@ ghost use Rattle.std.specs.Prelude.{◌≡◌, ◌+◌, ◌++◌, ◌∷◌, [],
 ghost use Rattle.ocl_values.specs.Shape.{IsWellMade};
 ghost use Rattle.ocl_eval.specs.Parts.{Evaluates, ev_in};
 ghost use Rattle.ocl_eval.specs.Evaluations.{Gives, pay};
-ghost use Rattle.ocl_eval.specs.Nodes.{bind, binary, branch, choice, collection, entry_of, paid, plain, right, to_set, unary, values};
+ghost use Rattle.ocl_eval.specs.Nodes.{applied, bind, binary, branch, choice, collection, entry_of, paid, plain, right, to_set, unary, values};
+ghost use Rattle.ocl_collections.specs.Operations.{coll_op_value};
+ghost use Rattle.ocl_operations.specs.Operators.{plain_value};
+ghost use Rattle.ocl_operations.specs.Sources.{as_source};
 ghost use Rattle.ocl_core.specs.Trees.{IsSound};
 ghost use Rattle.ocl_core.specs.Programs.{IsSoundProgram};
 
@@ -13,6 +16,7 @@ use ocl_core::{BinaryOp, CollOp, Expr, PlainOp, UnaryOp};
 use ocl_operations::{as_source, binary, decided, plain, unary};
 use ocl_values::Value;
 use std::marker::PhantomData;
+use std::slice;
 
 /// A node, by what evaluates its parts.
 #[derive(Drop)]
@@ -132,8 +136,34 @@ where
         }
     }
 
+    /// An operation between two parts.
     #[tactic(auto, unfolding(crate::specs::Nodes::binary))]
     #[inline(never)]
+    fn operands(
+        &self,
+        op: BinaryOp,
+        a: &Expr,
+        b: &Expr,
+        locals: &mut Values,
+        meter: &mut Meter,
+        steps: &mut S,
+    ) -> Result<Value, Stop>
+        requires parts { Evaluates V.now V.pre V.count self.now.setting.levels (F.pre self.now.value) (F.post self.now.value) }
+        requires program { IsSoundProgram self.now.setting.program.now }
+        requires first { IsSound a.now }
+        requires second { IsSound b.now }
+        ensures value { Gives (binary (ev_in V.now V.pre self.now.setting) locals.old op a.now b.now meter.old) result meter.new }
+        ensures well_made { IfOk result IsWellMade }
+        ensures locals { locals.new ≡ locals.old }
+        ensures ticks { V.count steps.new + meter.new.fuel ≡ V.count steps.old + meter.old.fuel }
+    {
+        let x = self.part(a, locals, meter, steps)?;
+        let known = decided(op, &x);
+        self.right(op, x, b, known, locals, meter, steps)
+    }
+
+    #[tactic(auto, unfolding(crate::specs::Nodes::binary))]
+    #[inline]
     pub(crate) fn binary(
         &self,
         op: BinaryOp,
@@ -155,9 +185,7 @@ where
         if let BinaryOp::Int(op) = op {
             return self.integers(op, a, b, locals, meter, steps);
         }
-        let x = self.part(a, locals, meter, steps)?;
-        let known = decided(op, &x);
-        self.right(op, x, b, known, locals, meter, steps)
+        self.operands(op, a, b, locals, meter, steps)
     }
 
     /// The value of a branch.
@@ -307,6 +335,37 @@ where
         Ok(done)
     }
 
+    /// An operation of a source and its arguments; most have one, which needs no list.
+    #[tactic(auto, unfolding(crate::specs::Nodes::values))]
+    #[inline]
+    fn plain_of(
+        &self,
+        op: PlainOp,
+        x: Value,
+        args: &[Expr],
+        locals: &mut Values,
+        meter: &mut Meter,
+        steps: &mut S,
+    ) -> Result<Value, Stop>
+        requires parts { Evaluates V.now V.pre V.count self.now.setting.levels (F.pre self.now.value) (F.post self.now.value) }
+        requires program { IsSoundProgram self.now.setting.program.now }
+        requires trees { All IsSound args.now }
+        requires well { IsWellMade x }
+        ensures value { Gives (applied (ev_in V.now V.pre self.now.setting) locals.old (plain_value op) x args.now meter.old) result meter.new }
+        ensures well_made { IfOk result IsWellMade }
+        ensures locals { locals.new ≡ locals.old }
+        ensures ticks { V.count steps.new + meter.new.fuel ≡ V.count steps.old + meter.old.fuel }
+    {
+        if let [b] = args {
+            let y = self.part(b, locals, meter, steps)?;
+            let value = plain(self.setting.alloc, op, &x, slice::from_ref(&y))?;
+            return pay(self.setting.states, value, meter, steps);
+        }
+        let xs = self.values(Values::new(self.setting.alloc), args, locals, meter, steps)?;
+        let value = plain(self.setting.alloc, op, &x, xs.as_slice())?;
+        pay(self.setting.states, value, meter, steps)
+    }
+
     #[tactic(auto, unfolding(crate::specs::Nodes::plain))]
     #[inline(never)]
     pub(crate) fn plain(
@@ -329,11 +388,42 @@ where
             [] => pay(self.setting.states, Value::Invalid, meter, steps),
             [a, args @ ..] => {
                 let x = self.part(a, locals, meter, steps)?;
-                let xs = self.values(Values::new(self.setting.alloc), args, locals, meter, steps)?;
-                let value = plain(self.setting.alloc, op, &x, xs.as_slice())?;
-                pay(self.setting.states, value, meter, steps)
+                self.plain_of(op, x, args, locals, meter, steps)
             }
         }
+    }
+
+    /// The same of a collection.
+    #[tactic(auto, unfolding(crate::specs::Nodes::values))]
+    #[inline]
+    fn collection_of(
+        &self,
+        op: CollOp,
+        x: Value,
+        args: &[Expr],
+        locals: &mut Values,
+        meter: &mut Meter,
+        steps: &mut S,
+    ) -> Result<Value, Stop>
+        requires parts { Evaluates V.now V.pre V.count self.now.setting.levels (F.pre self.now.value) (F.post self.now.value) }
+        requires program { IsSoundProgram self.now.setting.program.now }
+        requires trees { All IsSound args.now }
+        requires well { IsWellMade x }
+        ensures value { Gives (applied (ev_in V.now V.pre self.now.setting) locals.old (λ x xs. coll_op_value op (as_source x) xs) x args.now meter.old) result meter.new }
+        ensures well_made { IfOk result IsWellMade }
+        ensures locals { locals.new ≡ locals.old }
+        ensures ticks { V.count steps.new + meter.new.fuel ≡ V.count steps.old + meter.old.fuel }
+    {
+        if let [b] = args {
+            let y = self.part(b, locals, meter, steps)?;
+            let source = as_source(self.setting.alloc, x)?;
+            let value = apply_owned(self.setting.alloc, op, source, slice::from_ref(&y))?;
+            return pay(self.setting.states, value, meter, steps);
+        }
+        let xs = self.values(Values::new(self.setting.alloc), args, locals, meter, steps)?;
+        let source = as_source(self.setting.alloc, x)?;
+        let value = apply_owned(self.setting.alloc, op, source, xs.as_slice())?;
+        pay(self.setting.states, value, meter, steps)
     }
 
     #[tactic(auto, unfolding(crate::specs::Nodes::collection))]
@@ -358,10 +448,7 @@ where
             [] => pay(self.setting.states, Value::Invalid, meter, steps),
             [a, args @ ..] => {
                 let x = self.part(a, locals, meter, steps)?;
-                let xs = self.values(Values::new(self.setting.alloc), args, locals, meter, steps)?;
-                let source = as_source(self.setting.alloc, x)?;
-                let value = apply_owned(self.setting.alloc, op, source, xs.as_slice())?;
-                pay(self.setting.states, value, meter, steps)
+                self.collection_of(op, x, args, locals, meter, steps)
             }
         }
     }

@@ -1,5 +1,6 @@
 ghost use Rattle.std.specs.Prelude.{◌≡◌, [], ◌∷◌, ◌++◌, All, IfOk, OnErr, OnOk, MatchOption, ◌<◌, length, slice_get, slice_set, take, unwrap_or};
 ghost use Rattle.ocl_values.specs.Shape.{IsWellMade};
+ghost use Rattle.ocl_eval.specs.Places.{front};
 ghost use Rattle.ocl_values.specs.declared.value.Value.TheVariants.{Invalid};
 
 use ocl_values::Value;
@@ -53,6 +54,7 @@ impl Values {
         Ok(())
     }
 
+    #[inline(always)]
     pub(crate) fn push(&mut self, value: Value) -> Result<(), AllocError>
         requires { IsWellMade value }
         ensures added { OnOk result (self.new ≡ self.old ++ value ∷ []) }
@@ -62,10 +64,43 @@ impl Values {
         Ok(())
     }
 
+    #[inline]
     pub(crate) fn pop(&mut self) -> Option<Value>
         ensures { MatchOption result ((self.old ≡ []) × (self.new ≡ [])) (λ last. self.old ≡ self.new ++ last ∷ []) }
     {
         self.items.pop()
+    }
+
+    /// Puts a value in the place of the last one.
+    #[inline]
+    pub(crate) fn set_last(&mut self, value: Value)
+        requires some { 0 < length self.old }
+        requires well_made { IsWellMade value }
+        ensures { self.new ≡ front 1 self.old ++ value ∷ [] }
+    {
+        let last = self.items.len() - 1;
+        self.items[last] = value;
+    }
+
+    /// Puts two values in the places of the last two.
+    #[inline]
+    pub(crate) fn set_last_two(&mut self, before: Value, last: Value)
+        requires some { 1 < length self.old }
+        requires before { IsWellMade before }
+        requires last { IsWellMade last }
+        ensures { self.new ≡ front 2 self.old ++ before ∷ last ∷ [] }
+    {
+        let at = self.items.len() - 1;
+        self.items[at - 1] = before;
+        self.items[at] = last;
+    }
+
+    /// Takes the last value away.
+    pub(crate) fn drop_last(&mut self)
+        requires { 0 < length self.old }
+        ensures { self.new ≡ front 1 self.old }
+    {
+        self.items.pop();
     }
 
     pub(crate) fn set(&mut self, at: usize, value: Value)
@@ -82,6 +117,7 @@ impl Values {
         self.items.truncate(len);
     }
 
+    #[inline]
     pub(crate) fn as_slice(&self) -> &[Value]
         ensures items { result.now ≡ self.now }
         ensures well_made { All IsWellMade result.now }
@@ -98,6 +134,7 @@ impl Values {
     }
 
     /// A copy of the value at a place, or invalid past the end.
+    #[inline]
     pub(crate) fn copy_of(&self, alloc: Global, at: u32) -> Result<Value, AllocError>
         ensures value { IfOk result (λ v. v ≡ unwrap_or (slice_get self.now at) Invalid) }
         ensures well_made { IfOk result IsWellMade }
