@@ -1,7 +1,8 @@
 -- Operations of integers, by the integers that their operands are.
-use Rattle.std.proofs.Common.{◌≡◌, ℕ, ℤ, suc, ◌-◌, ◌<◌, true, cond, is_some, nat_le, List, Option, Some, None, refl, ap, ◌∙◌, arith}
+use Rattle.std.proofs.Common.{◌≡◌, ℕ, ℤ, suc, ◌-◌, ◌<◌, true, cond, is_some, nat_le, List, Option, Some, None, unwrap_or, refl, ap, ◌∙◌, arith}
 use Rattle.std.proofs.lemmas.Bool.{le-leb}
 use Rattle.ocl_values.specs.Integers.{int_op_value}
+use Rattle.ocl_values.specs.Shape.{size_of}
 use Rattle.ocl_values.specs.declared.integer.IntOp.{IntOp}
 use Rattle.ocl_values.specs.declared.value.Value.{Value}
 use Rattle.ocl_values.specs.declared.value.Value.TheVariants as V
@@ -14,8 +15,8 @@ use Rattle.ocl_core.specs.Trees.{Layer}
 use Rattle.ocl_operations.specs.Operators.{decided}
 use Rattle.ocl_eval.specs.declared.meter.Meter.{Meter}
 use Rattle.ocl_eval.specs.Evaluation.{ev}
-use Rattle.ocl_eval.specs.Evaluations.{Evaluation, Outcome, ◌>>=◌, pay, pure, then_with}
-use Rattle.ocl_eval.specs.Integers.{integer, integer_in, integers, of_integers, ready, ready_in}
+use Rattle.ocl_eval.specs.Evaluations.{Evaluation, Outcome, ◌>>=◌, pay, pure, spend, then_with}
+use Rattle.ocl_eval.specs.Integers.{integer, integer_in, integers, of_integers, ready, ready_in, small, small_in, small_ready}
 use Rattle.ocl_eval.specs.Nodes.{binary, entry_of, layer, node, right}
 use Rattle.ocl_eval.specs.Scenes.{Scene}
 use Rattle.ocl_eval.proofs.Depth.{deeper}
@@ -115,3 +116,53 @@ pub ready_gives : (o : Option ℤ) (m : Meter) (s : Scene) (levels : ℕ) (at : 
     → ready env x ≡ o → integer (ev s levels at) env x m ≡ (Some o, record m { fuel = m.fuel - 1 })
 ready_gives None m s levels at env x found some more h = absurd (cc)
 ready_gives (Some n) m s levels at env x found some more h = by_ready n m some s levels at env x more h
+
+-- ---- a value of size 1 that stands ready
+
+small_one : (v w : Value) → small v ≡ Some w → (v ≡ w) × (size_of v ≡ 1)
+small_one Null w h = (ap (λ o. unwrap_or o Null) h, refl)
+small_one Invalid w h = absurd (cc)
+small_one (V.Bool b) w h = (ap (λ o. unwrap_or o Null) h, refl)
+small_one (Int n) w h = (ap (λ o. unwrap_or o Null) h, refl)
+small_one (V.Str t) w h = absurd (cc)
+small_one (V.Enum e l) w h = absurd (cc)
+small_one (V.Obj o) w h = (ap (λ o. unwrap_or o Null) h, refl)
+small_one (Coll' kind shape row) w h = absurd (cc)
+
+module _ (w : Value) (m : Meter) (some : 0 < m.fuel) where
+  abbrev spent : Outcome Value
+  spent = (Some w, record m { fuel = m.fuel - 1 })
+
+  small_paid : (v : Value) → small v ≡ Some w → pay v m ≡ spent
+  small_paid v h =
+      ap (λ n. then_with (spend n m) (λ _. pure v)) (small_one v w h).1
+      ∙ ap (λ b. then_with (cond b (Some tt, record m { fuel = m.fuel - 1 }) (None, m)) (λ _. pure v)) (le-leb 1 m.fuel (omega (arith, some)))
+      ∙ ap (λ x. (Some x, record m { fuel = m.fuel - 1 })) (small_one v w h).0
+
+  module _ (s : Scene) (e : When → List Value → Expr → Evaluation Value) (at : When) (env : List Value) where
+    small_layer : (l : Layer) → small_in env l ≡ Some w → layer s e at env l m ≡ spent
+    small_layer (Expr-F.Literal v) h = small_paid v h
+    small_layer (Expr-F.Local k) h = small_paid (entry_of env k) h
+    small_layer (Expr-F.Unary op a) h = absurd (cc)
+    small_layer (Expr-F.Binary op a b) h = absurd (cc)
+    small_layer (Expr-F.If c a b) h = absurd (cc)
+    small_layer (Expr-F.Let a b) h = absurd (cc)
+    small_layer (Expr-F.Make kind all) h = absurd (cc)
+    small_layer (Expr-F.Plain op all) h = absurd (cc)
+    small_layer (Expr-F.Coll op all) h = absurd (cc)
+    small_layer (Expr-F.Iter op source count start body) h = absurd (cc)
+    small_layer (Expr-F.Attr a number when) h = absurd (cc)
+    small_layer (Expr-F.Derived a number when) h = absurd (cc)
+    small_layer (Expr-F.Nav a assoc end when) h = absurd (cc)
+    small_layer (Expr-F.Extent class when) h = absurd (cc)
+    small_layer (Expr-F.Query a op all) h = absurd (cc)
+    small_layer (Expr-F.Test test a t when) h = absurd (cc)
+    small_layer (Expr-F.IsNew a) h = absurd (cc)
+    small_layer (Expr-F.ToSet a) h = absurd (cc)
+
+  small_node : (s : Scene) (k : ℕ) (at : When) (env : List Value) (x : Expr) → small_ready env x ≡ Some w → ev s (suc k) at env x m ≡ spent
+  unfolding ev node small_ready
+  small_node s k at env x h = small_layer s (ev s k) at env (out-Expr x) h
+
+  pub small_gives : (s : Scene) (levels : ℕ) (at : When) (env : List Value) (x : Expr) → 0 < levels → small_ready env x ≡ Some w → ev s levels at env x m ≡ spent
+  small_gives s levels at env x more h = deeper (λ k. ev s k at env x m) levels more ∙ small_node s (levels - 1) at env x h

@@ -3,6 +3,7 @@ use Rattle.std.specs.Prelude.{ℤ, List, Option, Some, None}
 use Rattle.ocl_values.specs.Integers.{int_op_value}
 use Rattle.ocl_values.specs.declared.integer.IntOp.{IntOp}
 use Rattle.ocl_values.specs.declared.value.Value.{Value}
+use Rattle.ocl_values.specs.declared.value.Value.TheVariants as V
 use Rattle.ocl_values.specs.declared.value.Value.TheVariants.{Null, Invalid, Int}
 use Rattle.ocl_core.specs.declared.expression.Expr.{Expr, out-Expr}
 use Rattle.ocl_core.specs.declared.expression.Expr.TheOpen.{Expr-F}
@@ -23,6 +24,23 @@ ready_in env _ = None
 
 unfoldable pub ready : List Value → Expr → Option ℤ
 ready env e = ready_in env (out-Expr e)
+
+-- a value of size 1 that is no word of its own
+abbrev pub small : Value → Option Value
+small Null = Some Null
+small (V.Bool b) = Some (V.Bool b)
+small (Int n) = Some (Int n)
+small (V.Obj o) = Some (V.Obj o)
+small _ = None
+
+-- the same as a literal, or an entry of the environment
+abbrev pub small_in : List Value → Layer → Option Value
+small_in env (Expr-F.Literal v) = small v
+small_in env (Expr-F.Local n) = small (entry_of env n)
+small_in env _ = None
+
+unfoldable pub small_ready : List Value → Expr → Option Value
+small_ready env e = small_in env (out-Expr e)
 
 -- the integer that a part gives
 abbrev pub integer : (List Value → Expr → Evaluation Value) → List Value → Expr → Evaluation (Option ℤ)

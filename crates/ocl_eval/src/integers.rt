@@ -1,17 +1,18 @@
-ghost use Rattle.std.specs.Prelude.{◌≡◌, ◌+◌, IfOk};
+ghost use Rattle.std.specs.Prelude.{◌≡◌, ◌+◌, IfOk, MatchOption, None, ⊤};
 ghost use Rattle.ocl_values.specs.Shape.{IsWellMade};
 ghost use Rattle.ocl_eval.specs.Parts.{Evaluates, ev_in};
 ghost use Rattle.ocl_eval.specs.Evaluations.{Gives};
-ghost use Rattle.ocl_eval.specs.Nodes.{entry_of};
-ghost use Rattle.ocl_eval.specs.Integers.{integer, integer_in, integers, of_integers, ready};
+ghost use Rattle.ocl_eval.specs.Nodes.{entry_of, right};
+ghost use Rattle.ocl_eval.specs.Integers.{integer, integer_in, integers, of_integers, ready, small, small_ready};
+ghost use Rattle.ocl_core.specs.declared.operators.BinaryOp.TheVariants.{Eq};
 ghost use Rattle.ocl_core.specs.Trees.{IsSound};
 ghost use Rattle.ocl_core.specs.Programs.{IsSoundProgram};
 
 use crate::costs::pay;
 use crate::node::Node;
 use crate::{Meter, Setting, States, Stop, Values};
-use ocl_core::{Expr, IntOp};
-use ocl_values::{Value, int_op};
+use ocl_core::{BinaryOp, Expr, IntOp};
+use ocl_values::{Value, int_op, same};
 
 /// The integer that a value is, if it is one.
 fn integer_in(value: &Value) -> Option<i128>
@@ -41,6 +42,59 @@ fn ready(e: &Expr, locals: &Values) -> Option<i128>
     match e {
         Expr::Literal(value) => integer_in(value),
         Expr::Local(number) => integer_at(locals, *number),
+        Expr::Unary(_, _)
+        | Expr::Binary(_, _, _)
+        | Expr::If(_, _, _)
+        | Expr::Let(_, _)
+        | Expr::Make(_, _)
+        | Expr::Plain(_, _)
+        | Expr::Coll(_, _)
+        | Expr::Iter(_, _, _, _, _)
+        | Expr::Attr(_, _, _)
+        | Expr::Derived(_, _, _)
+        | Expr::Nav(_, _, _, _)
+        | Expr::Extent(_, _)
+        | Expr::Query(_, _, _)
+        | Expr::Test(_, _, _, _)
+        | Expr::IsNew(_)
+        | Expr::ToSet(_) => None,
+    }
+}
+
+/// A copy of a value of size 1.
+#[inline]
+fn small(value: &Value) -> Option<Value>
+    ensures value { result ≡ small value.now }
+    ensures well_made { MatchOption result ⊤ IsWellMade }
+{
+    match value {
+        Value::Null => Some(Value::Null),
+        Value::Bool(b) => Some(Value::Bool(*b)),
+        Value::Int(n) => Some(Value::Int(*n)),
+        Value::Obj(object) => Some(Value::Obj(*object)),
+        _ => None,
+    }
+}
+
+fn small_at(locals: &Values, at: u32) -> Option<Value>
+    ensures value { result ≡ small (entry_of locals.now at) }
+    ensures well_made { MatchOption result ⊤ IsWellMade }
+{
+    match locals.as_slice().get(at as usize) {
+        Some(value) => small(value),
+        None => None,
+    }
+}
+
+/// The value of size 1 that stands ready as a literal or in the environment, if it is one.
+#[tactic(auto, unfolding(crate::specs::Integers::small_ready))]
+fn small_ready(e: &Expr, locals: &Values) -> Option<Value>
+    ensures value { result ≡ small_ready locals.now e.now }
+    ensures well_made { MatchOption result ⊤ IsWellMade }
+{
+    match e {
+        Expr::Literal(value) => small(value),
+        Expr::Local(number) => small_at(locals, *number),
         Expr::Unary(_, _)
         | Expr::Binary(_, _, _)
         | Expr::If(_, _, _)
@@ -151,5 +205,33 @@ where
         let x = self.integer(a, locals, meter, steps)?;
         let y = self.integer(b, locals, meter, steps)?;
         pay(self.setting.states, of_integers(op, x, y), meter, steps)
+    }
+
+    /// Whether a value equals an operand, which often stands ready and is then not evaluated.
+    pub(crate) fn equality(
+        &self,
+        x: Value,
+        b: &Expr,
+        locals: &mut Values,
+        meter: &mut Meter,
+        steps: &mut S,
+    ) -> Result<Value, Stop>
+        requires parts { Evaluates V.now V.pre V.count self.now.setting.levels (F.pre self.now.value) (F.post self.now.value) }
+        requires program { IsSoundProgram self.now.setting.program.now }
+        requires tree { IsSound b.now }
+        requires well { IsWellMade x }
+        ensures value { Gives (right (ev_in V.now V.pre self.now.setting) locals.old Eq x b.now None meter.old) result meter.new }
+        ensures well_made { IfOk result IsWellMade }
+        ensures locals { locals.new ≡ locals.old }
+        ensures ticks { V.count steps.new + meter.new.fuel ≡ V.count steps.old + meter.old.fuel }
+    {
+        if meter.fuel > 0 && self.setting.levels > 0 {
+            if let Some(y) = small_ready(b, locals) {
+                meter.fuel -= 1;
+                self.setting.states.tick_by(1, steps);
+                return pay(self.setting.states, same(&x, &y), meter, steps);
+            }
+        }
+        self.operation(BinaryOp::Eq, x, b, locals, meter, steps)
     }
 }

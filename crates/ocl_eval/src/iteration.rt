@@ -337,8 +337,9 @@ where
         ensures locals { locals.new ≡ locals.old }
         ensures ticks { V.count steps.new + meter.new.fuel ≡ V.count steps.old + meter.old.fuel }
     {
+        let values = Values::with_capacity(self.setting.alloc, items.len())?;
         let none = Visited {
-            values: Values::new(self.setting.alloc),
+            values,
             ended: false,
         };
         if count == 2 {

@@ -1,4 +1,4 @@
-ghost use Rattle.std.specs.Prelude.{◌≡◌, ◌+◌, ◌++◌, ◌∷◌, [], All, IfOk, MatchOption, ⊤};
+ghost use Rattle.std.specs.Prelude.{◌≡◌, ◌+◌, ◌++◌, ◌∷◌, [], All, IfOk, MatchOption, None, ⊤};
 ghost use Rattle.ocl_values.specs.Shape.{IsWellMade};
 ghost use Rattle.ocl_eval.specs.Parts.{Evaluates, ev_in};
 ghost use Rattle.ocl_eval.specs.Evaluations.{Gives, pay};
@@ -128,12 +128,36 @@ where
     {
         match known {
             Some(value) => pay(self.setting.states, value, meter, steps),
-            None => {
-                let y = self.part(b, locals, meter, steps)?;
-                let value = binary(self.setting.alloc, op, x, y)?;
-                pay(self.setting.states, value, meter, steps)
-            }
+            None => match op {
+                BinaryOp::Eq => self.equality(x, b, locals, meter, steps),
+                _ => self.operation(op, x, b, locals, meter, steps),
+            },
         }
+    }
+
+    /// What an operation gives of a value and an operand.
+    #[inline]
+    pub(crate) fn operation(
+        &self,
+        op: BinaryOp,
+        x: Value,
+        b: &Expr,
+        locals: &mut Values,
+        meter: &mut Meter,
+        steps: &mut S,
+    ) -> Result<Value, Stop>
+        requires parts { Evaluates V.now V.pre V.count self.now.setting.levels (F.pre self.now.value) (F.post self.now.value) }
+        requires program { IsSoundProgram self.now.setting.program.now }
+        requires tree { IsSound b.now }
+        requires well { IsWellMade x }
+        ensures value { Gives (right (ev_in V.now V.pre self.now.setting) locals.old op x b.now None meter.old) result meter.new }
+        ensures well_made { IfOk result IsWellMade }
+        ensures locals { locals.new ≡ locals.old }
+        ensures ticks { V.count steps.new + meter.new.fuel ≡ V.count steps.old + meter.old.fuel }
+    {
+        let y = self.part(b, locals, meter, steps)?;
+        let value = binary(self.setting.alloc, op, x, y)?;
+        pay(self.setting.states, value, meter, steps)
     }
 
     /// An operation between two parts.

@@ -38,6 +38,14 @@ impl Values {
         }
     }
 
+    /// No values, with room for so many.
+    pub(crate) fn with_capacity(alloc: Global, capacity: usize) -> Result<Values, AllocError>
+        ensures { IfOk result (λ values. values ≡ []) }
+    {
+        let items = Vec::with_capacity(alloc, capacity)?;
+        Ok(Values { items })
+    }
+
     pub(crate) fn from_vec(items: Vec<Value>) -> Values
         requires { All IsWellMade items.items }
         ensures { result ≡ items.items }

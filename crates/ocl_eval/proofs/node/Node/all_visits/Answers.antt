@@ -16,4 +16,4 @@ returns-then-count-eq2-clause-value g c =
     (visits_pairs (ev_in g.V.States.now g.V.States.pre c.args.self.now.setting) c.args.locals.now c.args.op c.args.body.now c.args.items.now
     (record { values = l; ended = false }) c.args.items.now
     c.args.meter.now) c.visits_pairs.result c.visits_pairs.new.meter)
-    c.new.ensures c.visits_pairs.ensures.value)
+    c.in_ok-values.ensures c.visits_pairs.ensures.value)

@@ -1,4 +1,4 @@
-use Rattle.std.proofs.Common.{◌-◌, arith, length}
+use Rattle.std.proofs.Common.{◌-◌, arith}
 use Rattle.ocl_eval.proofs.Fronts.{last_set}
 use Rattle.ocl_eval.proofs.values.Values.set_last.Goals as goal
 
