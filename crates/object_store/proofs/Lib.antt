@@ -9,3 +9,5 @@ pub mod Changed
 pub mod Walked
 pub mod Tables
 pub mod Carried
+mod Cells
+mod Pages

@@ -1,2 +1,4 @@
 pub mod Indexes
 pub mod Held
+pub mod Cells
+pub mod Pages

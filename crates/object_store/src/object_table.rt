@@ -13,21 +13,21 @@ ghost use Rattle.object_state.specs.Layouts.{ancestors};
 ghost use Rattle.object_state.specs.State.{link_cmp};
 ghost use Rattle.object_store.specs.Indexes.{extent_in, has_pair, is_one, named_in, object_in};
 
-use crate::entries::{put, take};
 use crate::extents::{Extents, objects_of, put_extents, take_extents};
 use crate::names::{Numbers, put_name, take_name};
+use crate::numbered::NumberMap;
 use class_model::{AttrNo, ClassNo};
-use object_state::{Layout, Object, ObjectChange, object_of, set_slot};
+use object_state::{Layout, Object, ObjectChange, object_of};
 use ocl_values::{ObjNo, Value};
 use std::alloc::{AllocError, Global};
-use std::collections::{BTreeMap, BTreeSet, HashMap};
+use std::collections::{BTreeSet, HashMap};
 use std::marker::Model;
 
 /// Objects by number. Contracts see the list of them in that order, and the layout.
 #[derive(Drop)]
 pub(crate) struct ObjectTable {
     layout: Layout,
-    objects: BTreeMap<ObjNo, Object>,
+    objects: NumberMap<Object>,
     /// The objects of names.
     names: Numbers,
     extents: Extents,
@@ -43,26 +43,9 @@ impl Model for ObjectTable {
 
     ghost coded = { Prim.hlevel (codes, values.the_row.coded) };
 
-    ghost view = { λ t. record { layout = t.layout; objects = t.objects.entries } };
+    ghost view = { λ t. record { layout = t.layout; objects = t.objects } };
 
-    ghost invariant = { λ t. ObjectsAreTied t.layout t.objects.entries (get_by_text t.names) t.extents.keys };
-}
-
-/// Stores a value in the object of a number, where it is live and has the attribute.
-fn set_slot_of(
-    alloc: Global,
-    layout: &Layout,
-    objects: &mut BTreeMap<ObjNo, Object>,
-    number: ObjNo,
-    attr: AttrNo,
-    value: Value,
-)
-    ensures { objects.new.entries ≡ option_map_or (λ x. set_value (is_at (nat_cmp number)) objects.old.entries (with_slot layout.now x attr value)) (object_in
-        objects.old.entries number) objects.old.entries }
-{
-    if let Some(object) = objects.get_mut(&number) {
-        set_slot(alloc, layout, object, attr, value);
-    }
+    ghost invariant = { λ t. ObjectsAreTied t.layout t.objects (get_by_text t.names) t.extents.keys };
 }
 
 /// Puts an object into the indexes, or into none.
@@ -104,7 +87,7 @@ impl ObjectTable {
     {
         ObjectTable {
             layout,
-            objects: BTreeMap::new(alloc),
+            objects: NumberMap::new(alloc),
             names: HashMap::new(alloc),
             extents: BTreeSet::new(alloc),
         }
@@ -126,7 +109,7 @@ impl ObjectTable {
     pub(crate) fn get(&self, number: ObjNo) -> Option<&Object>
         ensures { option_copied result ≡ object_in self.now.objects number }
     {
-        self.objects.get(&number)
+        self.objects.get(number)
     }
 
     /// The number of the object of a name.
@@ -140,7 +123,7 @@ impl ObjectTable {
     pub(crate) fn numbers(&self, alloc: Global) -> Result<Vec<ObjNo>, AllocError>
         ensures { IfOk result (λ v. v.items ≡ keys_of self.now.objects) }
     {
-        self.objects.keys().copied().collect(alloc)
+        self.objects.numbers(alloc)
     }
 
     /// The objects of a class and its descendants, by number.
@@ -159,11 +142,11 @@ impl ObjectTable {
         ensures err { OnErr result (self.new ≡ self.old) }
     {
         let object = object_of(alloc, new)?;
-        put(&mut self.objects, new.object, object)?;
+        self.objects.insert(alloc, new.object, object)?;
         match put_indexes(alloc, &self.layout, &mut self.names, &mut self.extents, new) {
             Ok(()) => Ok(()),
             Err(refused) => {
-                take(&mut self.objects, new.object);
+                self.objects.remove(new.object);
                 Err(refused)
             }
         }
@@ -174,7 +157,7 @@ impl ObjectTable {
         requires { object_in self.old.objects old.now.object ≡ Some (object_of old.now) }
         ensures { self.new ≡ record self.old { objects = remove_entry (is_at (nat_cmp old.now.object)) self.old.objects } }
     {
-        take(&mut self.objects, old.object);
+        self.objects.remove(old.object);
         take_name(&mut self.names, old.name.as_str());
         take_extents(
             &mut self.extents,
@@ -190,6 +173,7 @@ impl ObjectTable {
               (object_in self.old.objects number) self.old.objects;
         } }
     {
-        set_slot_of(alloc, &self.layout, &mut self.objects, number, attr, value);
+        self.objects
+            .set_slot(alloc, &self.layout, number, attr, value);
     }
 }

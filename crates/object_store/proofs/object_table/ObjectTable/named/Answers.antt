@@ -8,5 +8,5 @@ use Rattle.object_store.proofs.object_table.ObjectTable.named.Goals as goal
 pub returns : goal.returns
 returns c =
     c.copied.ensures ∙ c.get.ensures.value
-    ∙ name_found (λ (x : Object). x.name) c.self.inside.objects.entries (get_by_text c.self.inside.names) c.self.invariant.names_tied c.args.name.now c.self.invariant.ordered
+    ∙ name_found (λ (x : Object). x.name) c.self.inside.objects (get_by_text c.self.inside.names) c.self.invariant.names_tied c.args.name.now c.self.invariant.ordered
     ∙ ap (λ (t : Objects). named_in t.objects c.args.name.now) c.self.view_is

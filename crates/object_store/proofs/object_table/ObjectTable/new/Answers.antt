@@ -1,4 +1,4 @@
-use Rattle.std.proofs.Common.{List, [], None}
+use Rattle.std.proofs.Common.{[], None}
 use Rattle.std.specs.HashMap.{get_by_text}
 use Rattle.object_store.proofs.Named.{none_found}
 use Rattle.object_store.proofs.Tables.{objects_none, tied_with}
@@ -6,5 +6,5 @@ use Rattle.object_store.proofs.object_table.ObjectTable.new.Goals as goal
 
 pub invariant_of-result : goal.invariant_of-result
 invariant_of-result c =
-    tied_with c.args.layout [] c.new.result.entries (λ n. None) (get_by_text c.new-2.result) [] c.new-3.result.keys c.new.ensures.empty
+    tied_with c.args.layout [] c.new.result (λ n. None) (get_by_text c.new-2.result) [] c.new-3.result.keys c.new.ensures
     (λ n. none_found c.new-2.result c.new-2.ensures.empty n) c.new-3.ensures.empty (objects_none c.args.layout)

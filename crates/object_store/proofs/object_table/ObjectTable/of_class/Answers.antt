@@ -10,7 +10,7 @@ use Rattle.object_store.proofs.object_table.ObjectTable.of_class.Goals as goal
 pub returns : goal.returns
 returns c =
     if_ok c.objects_of.result (λ v e. e
-    ∙ class_in_range (λ (x : Object) k. is_a c.self.inside.layout x.class k) c.self.inside.objects.entries c.self.inside.extents.keys
+    ∙ class_in_range (λ (x : Object) k. is_a c.self.inside.layout x.class k) c.self.inside.objects c.self.inside.extents.keys
     c.self.invariant.extents_tied
     c.self.invariant.ordered c.self.invariant.extents_ordered c.self.invariant.small c.args.class Obj
     ∙ ap (λ (t : Objects). map Obj (extent_in t.layout t.objects c.args.class)) c.self.view_is) c.objects_of.ensures

@@ -10,10 +10,10 @@ use Rattle.object_store.proofs.object_table.ObjectTable.remove.Goals as goal
 
 pub invariant_of-self : goal.invariant_of-self
 invariant_of-self c =
-    tied_with c.self.inside.layout _ c.take.new.map.entries _ (get_by_text c.take_name.new.numbers) c.take_extents.new.extents.keys c.take_extents.new.extents.keys
-    c.take.ensures
+    tied_with c.self.inside.layout _ c.remove.new.self _ (get_by_text c.take_name.new.numbers) c.take_extents.new.extents.keys c.take_extents.new.extents.keys
+    c.remove.ensures
     (λ n. refl) refl
-    (object_less c.self.inside.layout c.self.inside.objects.entries (get_by_text c.self.inside.names) c.self.inside.extents.keys c.self.invariant
+    (object_less c.self.inside.layout c.self.inside.objects (get_by_text c.self.inside.names) c.self.inside.extents.keys c.self.invariant
     c.take_extents.new.extents.keys c.take_extents.ensures.ordered c.args.old.now
     (subst (λ (ks : List ℕ). (k o : ℕ) → is_one ks c.args.old.now.object k o ≡ false
     → has_pair c.take_extents.new.extents.keys k o ≡ has_pair c.self.inside.extents.keys k o) c.ancestors.ensures c.take_extents.ensures.others)

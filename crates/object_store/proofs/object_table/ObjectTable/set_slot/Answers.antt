@@ -5,7 +5,7 @@ use Rattle.object_store.proofs.object_table.ObjectTable.set_slot.Goals as goal
 
 pub invariant_of-self : goal.invariant_of-self
 invariant_of-self c =
-    tied_with c.self.inside.layout _ c.set_slot_of.new.objects.entries (get_by_text c.self.inside.names) (get_by_text c.self.inside.names) c.self.inside.extents.keys
-    c.self.inside.extents.keys c.set_slot_of.ensures (λ n. refl) refl
-    (object_set c.self.inside.layout c.self.inside.objects.entries (get_by_text c.self.inside.names) c.self.inside.extents.keys c.self.invariant c.args.number c.args.attr
+    tied_with c.self.inside.layout _ c.set_slot.new.self (get_by_text c.self.inside.names) (get_by_text c.self.inside.names) c.self.inside.extents.keys
+    c.self.inside.extents.keys c.set_slot.ensures (λ n. refl) refl
+    (object_set c.self.inside.layout c.self.inside.objects (get_by_text c.self.inside.names) c.self.inside.extents.keys c.self.invariant c.args.number c.args.attr
     c.args.value)

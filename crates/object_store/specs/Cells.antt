@@ -1,0 +1,13 @@
+-- Values in cells that are numbered from some number on.
+use Rattle.std.specs.Prelude.{ℕ, ◌+◌, List, [], ◌∷◌, Option, Some, None}
+
+-- the entries of the cells that hold a value, by number
+abbrev pub entries : {X : Type 0} → ℕ → List (Option X) → List (ℕ × X)
+entries n [] = []
+entries n (None ∷ cells) = entries (n + 1) cells
+entries n (Some x ∷ cells) = (n, x) ∷ entries (n + 1) cells
+
+-- the value of a cell that may be there
+abbrev pub cell_in : {X : Type 0} → Option (Option X) → Option X
+cell_in None = None
+cell_in (Some c) = c
