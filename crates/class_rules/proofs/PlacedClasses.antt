@@ -1,10 +1,12 @@
 -- Where the classes of names stand.
-use Rattle.std.proofs.Common.{◌≡◌, ℕ, zero, suc, ◌+◌, ◌<◌, Bool, true, false, cond, List, [], ◌∷◌, map, nat_cmp, length, get_or, take, Option, Some, None, is_some, Ordering, refl, sym, ap, ap₂, ◌∙◌, arith, true≢false}
-use Rattle.std.specs.BTreeMap.{BTreeMap, UpdatesBy, get}
+use Rattle.std.proofs.Common.{◌≡◌, ℕ, zero, suc, ◌+◌, ◌<◌, Bool, true, false, cond, List, [], ◌∷◌, map, nat_cmp, length, get_or, take, Option, Some, None, Result, Ok, Err, is_some, Ordering, refl, sym, ap, ap₂, ◌∙◌, arith, true≢false}
 use Rattle.std.specs.Cmp.Lexicographic.{slice_cmp, texts_ties}
 use Rattle.std.specs.FinMap.{nat_cmp-IsAntisymmetric, slice_cmp-IsAntisymmetric}
 use Rattle.std.specs.List.{cons_option, filter_map, position_from}
+use Rattle.std.specs.Map.{update}
 use Rattle.std.specs.Option.{option_or}
+use Rattle.std.specs.Prelude.{OnOk}
+use Rattle.std.specs.Str.{bytes_eq}
 use Rattle.use_orders.proofs.Sets.{equal}
 use Rattle.class_decls.specs.Texts.{same_text}
 use Rattle.class_decls.proofs.Given.{none_from}
@@ -47,19 +49,22 @@ added_by : (o : Option ℕ) (place : ℕ) (b : Bool) → (b ≡ true → o ≡ N
 added_by o place true h = ap (λ p. option_or p (Some place)) (sym (h refl))
 added_by o place false h = or_none o
 
-module _ (old : BTreeMap (List ℕ) ℕ) (text : List ℕ) (place : ℕ) where
+module _ (old : List ℕ → Option ℕ) (text : List ℕ) (place : ℕ) where
   -- a name that is there keeps its place
-  pub kept : is_some (get text_cmp old text) ≡ true → (t : List ℕ) → get text_cmp old t ≡ option_or (get text_cmp old t) (cond (same_text text t)
-      (Some place) None)
-  kept known t = kept_by (get text_cmp old t) place (same_text text t) (λ e. ap (λ k. is_some (get text_cmp old k)) (sym (same_is text t e)) ∙ known)
+  pub kept : is_some (old text) ≡ true → (t : List ℕ) → old t ≡ option_or (old t) (cond (same_text text t) (Some place) None)
+  kept known t = kept_by (old t) place (same_text text t) (λ e. ap (λ k. is_some (old k)) (sym (same_is text t e)) ∙ known)
 
   -- a new name gets it
-  pub added : (new : BTreeMap (List ℕ) ℕ) → is_some (get text_cmp old text) ≡ false → UpdatesBy text_cmp (text_cmp text) old new (Some place) →
-      (t : List ℕ) → get text_cmp new t ≡ option_or (get text_cmp old t) (cond (same_text text t) (Some place) None)
+  pub added : (new : List ℕ → Option ℕ) → is_some (old text) ≡ false → ((t : List ℕ) → new t ≡ update bytes_eq old text (Some place) t) →
+      (t : List ℕ) → new t ≡ option_or (old t) (cond (same_text text t) (Some place) None)
   added new absent updates t =
-      updates.0 t ∙ ap (λ b. cond b (Some place) (get text_cmp old t)) (sym (texts_ties text t))
-      ∙ added_by (get text_cmp old t) place (same_text text t) (λ e. none_from (get text_cmp old t) (ap (λ k. is_some (get text_cmp old k)) (sym
-      (same_is text t e)) ∙ absent))
+      updates t
+      ∙ added_by (old t) place (same_text text t) (λ e. none_from (old t) (ap (λ k. is_some (old k)) (sym (same_is text t e)) ∙ absent))
+
+-- what is said only where memory was not wanting
+pub on_ok : {A E P Q : Type 0} (r : Result A E) → (P → Q) → OnOk r P → OnOk r Q
+on_ok (Ok a) f h = f h
+on_ok (Err e) f h = tt
 
 -- two choices that agree give the same
 pub choices_alike : {A B : Type 0} (f g : A → Option B) → ((x : A) → f x ≡ g x) → (xs : List A) → filter_map f xs ≡ filter_map g xs

@@ -1,9 +1,7 @@
 -- The operations of each class by name.
 use denote.Ref.{Bor}
-use Rattle.std.specs.Prelude.{◌≡◌, ⊤, ℕ, List, [], ◌∷◌, map}
-use Rattle.std.specs.BTreeMap.{BTreeMap, get}
-use Rattle.std.specs.Cmp.Lexicographic.{slice_cmp}
-use Rattle.std.specs.Ordering.{nat_cmp}
+use Rattle.std.specs.Prelude.{◌≡◌, ⊤, ℕ, List, [], ◌∷◌, map, Option}
+use Rattle.std.specs.BTreeMap.{BTreeMap}
 use Rattle.class_decls.specs.declared.decls.ClassDecl.{ClassDecl}
 use Rattle.class_decls.specs.declared.decls.Decls.{Decls}
 use Rattle.class_decls.specs.declared.decls.OpDecl.{OpDecl}
@@ -22,6 +20,6 @@ AreOpsOf (groups ∷ more) (c ∷ cs) = IsOpsOf groups c × AreOpsOf more cs
 AreOpsOf _ _ = ⊥
 
 -- where the classes of declarations stand, and the operations of each
-pub record IsDeclaredOf (ds : Decls) (places : BTreeMap (List ℕ) ℕ) (ops : List (BTreeMap (List ℕ) (List (Bor OpDecl)))) : Type 0 where
-  pub placed : (name : List ℕ) → get (slice_cmp nat_cmp) places name ≡ class_at ds name
+pub record IsDeclaredOf (ds : Decls) (places : List ℕ → Option ℕ) (ops : List (BTreeMap (List ℕ) (List (Bor OpDecl)))) : Type 0 where
+  pub placed : (name : List ℕ) → places name ≡ class_at ds name
   pub each : AreOpsOf ops ds.classes

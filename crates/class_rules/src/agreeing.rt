@@ -1,17 +1,15 @@
 ghost use Rattle.std.specs.Prelude.{◌≡◌, [], ◌∷◌, ◌++◌, ℕ, List, if◌then◌else◌, IfOk, OnOk, map};
-ghost use Rattle.std.specs.BTreeMap.{get};
-ghost use Rattle.std.specs.Cmp.Lexicographic.{slice_cmp};
 ghost use Rattle.std.specs.List.{list_all, position_from};
-ghost use Rattle.std.specs.Ordering.{nat_cmp};
 ghost use Rattle.class_rules.specs.Agreeing.{all_ops, bodies_agree, is_as_first, is_query, is_soil, names_with, signatures_agree};
+ghost use Rattle.class_rules.specs.Numbering.{place_in};
 ghost use Rattle.class_decls.specs.Texts.{same_text};
 
 use crate::clash::same_signature;
-use crate::places::{Places, add_place};
+use crate::places::{Places, add_place, place_of};
 use class_decls::{BodyKind, ClassDecl, Name, OpDecl};
 use ocl_values::Text;
 use std::alloc::{AllocError, Global};
-use std::collections::BTreeMap;
+use std::collections::HashMap;
 use use_orders::contains_none;
 
 fn add_ops<'a>(ops: &'a [OpDecl], found: &mut Vec<&'a OpDecl>) -> Result<(), AllocError>
@@ -36,23 +34,23 @@ fn all_ops<'a>(alloc: Global, classes: &'a [ClassDecl]) -> Result<Vec<&'a OpDecl
 
 /// Where the first operation of each name stands.
 fn first_places(alloc: Global, ops: &[&OpDecl]) -> Result<Places, AllocError>
-    ensures { IfOk result (λ m. (t : List ℕ) → get (slice_cmp nat_cmp) m t ≡ position_from (λ op. same_text op.name.text t) 0 (map (λ op. op.now) ops.now)) }
+    ensures { IfOk result (λ m. (t : List ℕ) → place_in m t ≡ position_from (λ op. same_text op.name.text t) 0 (map (λ op. op.now) ops.now)) }
 {
-    let mut places = BTreeMap::new(alloc);
+    let mut places = HashMap::new(alloc);
     'ops: for (i, op) in ops.iter().enumerate() {
-        add_place(&mut places, Text::copy_of(alloc, op.name.text.as_str())?, i)?;
+        add_place(alloc, &mut places, op.name.text.as_str(), i)?;
     }
     Ok(places)
 }
 
 /// Whether an operation has the signature of the first of its name.
 fn is_as_first(ops: &[&OpDecl], places: &Places, op: &OpDecl) -> bool
-    requires { (t : List ℕ) → get (slice_cmp nat_cmp) places.now t ≡ position_from (λ op. same_text op.name.text t) 0 (map (λ op. op.now) ops.now) }
+    requires { (t : List ℕ) → place_in places.now t ≡ position_from (λ op. same_text op.name.text t) 0 (map (λ op. op.now) ops.now) }
     ensures { result ≡ is_as_first (map (λ op. op.now) ops.now) op.now }
 {
-    match places.get(&op.name.text) {
+    match place_of(places, &op.name.text) {
         None => false,
-        Some(place) => match ops.get(*place) {
+        Some(place) => match ops.get(place) {
             None => false,
             Some(first) => same_signature(first, op),
         },
@@ -60,7 +58,7 @@ fn is_as_first(ops: &[&OpDecl], places: &Places, op: &OpDecl) -> bool
 }
 
 fn all_as_first(all: &[&OpDecl], places: &Places, ops: &[&OpDecl]) -> bool
-    requires { (t : List ℕ) → get (slice_cmp nat_cmp) places.now t ≡ position_from (λ op. same_text op.name.text t) 0 (map (λ op. op.now) all.now) }
+    requires { (t : List ℕ) → place_in places.now t ≡ position_from (λ op. same_text op.name.text t) 0 (map (λ op. op.now) all.now) }
     ensures { result ≡ list_all (is_as_first (map (λ op. op.now) all.now)) (map (λ op. op.now) ops.now) }
 {
     'ops: for op in ops {

@@ -6,7 +6,7 @@ ghost use Rattle.class_decls.specs.Texts.{first_given};
 
 use crate::clash::{add_ops, same_signature};
 use crate::groups::{Groups, of_name};
-use crate::places::{Places, class_places};
+use crate::places::{Places, class_places, place_of};
 use class_decls::{ClassDecl, CondDecl, Decls, OpDecl, head_in};
 use ocl_values::Text;
 use std::alloc::{AllocError, Global};
@@ -26,12 +26,13 @@ struct Declared<'a> {
 impl<'a> Model for Declared<'a> {
     ghost use Rattle.class_decls.specs.declared.decls.Decls.{Decls};
     ghost use Rattle.class_rules.specs.ClassOps.{IsDeclaredOf};
+    ghost use Rattle.class_rules.specs.Numbering.{place_in};
 
     ghost Value = { Decls };
 
     ghost view = { λ d. d.decls.now };
 
-    ghost invariant = { λ d. IsDeclaredOf d.decls.now d.places d.ops };
+    ghost invariant = { λ d. IsDeclaredOf d.decls.now (place_in d.places) d.ops };
 }
 
 /// The operations of a class by name.
@@ -68,9 +69,9 @@ fn has_signature(ops: &[&OpDecl], head: &OpDecl) -> bool
 fn declares_head(declared: &Declared<'_>, class: &Text, head: &OpDecl) -> bool
     ensures { result ≡ declares_head declared.now class.now head.now }
 {
-    match declared.places.get(class) {
+    match place_of(&declared.places, class) {
         None => false,
-        Some(place) => match declared.ops.get(*place) {
+        Some(place) => match declared.ops.get(place) {
             None => false,
             Some(ops) => has_signature(of_name(ops, &head.name.text), head),
         },

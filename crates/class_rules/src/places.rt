@@ -1,71 +1,92 @@
-ghost use Rattle.std.specs.Prelude.{◌≡◌, [], ◌++◌, List, ℕ, IfOk, OnOk, map};
-ghost use Rattle.std.specs.BTreeMap.{get};
-ghost use Rattle.std.specs.Cmp.Lexicographic.{slice_cmp};
+ghost use Rattle.std.specs.Prelude.{◌≡◌, [], ◌++◌, List, ℕ, IfOk, OnOk, Some, map};
 ghost use Rattle.std.specs.List.{cons_option, filter_map, position_from};
-ghost use Rattle.std.specs.Option.{option_copied, option_or};
-ghost use Rattle.std.specs.Ordering.{nat_cmp};
+ghost use Rattle.std.specs.Map.{update};
+ghost use Rattle.std.specs.Option.{option_or};
+ghost use Rattle.std.specs.Str.{bytes_eq};
 ghost use Rattle.class_rules.specs.Numbering.{class_at, parent_places, place_in, some_if};
 ghost use Rattle.class_decls.specs.Texts.{same_text};
 
 use class_decls::{ClassDecl, Decls, Name};
 use ocl_values::Text;
 use std::alloc::{AllocError, Global};
-use std::collections::BTreeMap;
+use std::collections::HashMap;
 use use_lists::Items;
 
-/// Where the classes of names stand.
-pub(crate) type Places = BTreeMap<Text, usize>;
+/// Where the classes of names stand. Nothing asks for their order, and a look costs one comparison
+/// of names.
+pub(crate) type Places = HashMap<String, usize>;
 
-/// A name stands at this place, unless it stands at another already.
-pub(crate) fn add_place(places: &mut Places, text: Text, place: usize) -> Result<(), AllocError>
-    ensures { OnOk result ((t : List ℕ) → place_in places.new t ≡ option_or (place_in places.old t) (some_if (same_text text t) place)) }
+/// Puts a place at a name, of which it makes a copy.
+fn put_place(
+    alloc: Global,
+    places: &mut Places,
+    text: &str,
+    place: usize,
+) -> Result<(), AllocError>
+    ensures { OnOk result ((t : List ℕ) → place_in places.new t ≡ update bytes_eq (place_in places.old) text.now (Some place) t) }
 {
-    if places.contains_key(&text) {
-        return Ok(());
-    }
-    places.insert(text, place)?;
+    let name = String::from_str(alloc, text)?;
+    places.insert(name, place)?;
     Ok(())
 }
 
-fn places_of(alloc: Global, classes: &[ClassDecl]) -> Result<Places, AllocError>
-    ensures { IfOk result (λ m. (t : List ℕ) → get (slice_cmp nat_cmp) m t ≡ position_from (λ c. same_text c.name.text t) 0 classes.now) }
+/// A name stands at this place, unless it stands at another already.
+pub(crate) fn add_place(
+    alloc: Global,
+    places: &mut Places,
+    text: &str,
+    place: usize,
+) -> Result<(), AllocError>
+    ensures { OnOk result ((t : List ℕ) → place_in places.new t ≡ option_or (place_in places.old t) (some_if (same_text text.now t) place)) }
 {
-    let mut places = BTreeMap::new(alloc);
+    if places.contains_key(text) {
+        return Ok(());
+    }
+    put_place(alloc, places, text, place)
+}
+
+/// Where the class or operation of a name stands.
+pub(crate) fn place_of(places: &Places, name: &Text) -> Option<usize>
+    ensures { result ≡ place_in places.now name.now }
+{
+    places.get(name.as_str()).copied()
+}
+
+fn places_of(alloc: Global, classes: &[ClassDecl]) -> Result<Places, AllocError>
+    ensures { IfOk result (λ m. (t : List ℕ) → place_in m t ≡ position_from (λ c. same_text c.name.text t) 0 classes.now) }
+{
+    let mut places = HashMap::new(alloc);
     'classes: for (i, class) in classes.iter().enumerate() {
-        add_place(
-            &mut places,
-            Text::copy_of(alloc, class.name.text.as_str())?,
-            i,
-        )?;
+        add_place(alloc, &mut places, class.name.text.as_str(), i)?;
     }
     Ok(places)
 }
 
 /// Where the classes stand.
 pub(crate) fn class_places(alloc: Global, decls: &Decls) -> Result<Places, AllocError>
-    ensures { IfOk result (λ m. (t : List ℕ) → get (slice_cmp nat_cmp) m t ≡ class_at decls.now t) }
+    ensures { IfOk result (λ m. (t : List ℕ) → place_in m t ≡ class_at decls.now t) }
 {
     places_of(alloc, decls.classes.as_slice())
 }
 
-fn add_found(place: Option<&usize>, found: &mut Vec<usize>) -> Result<(), AllocError>
-    ensures { OnOk result (found.new.items ≡ found.old.items ++ cons_option (option_copied place.entry) []) }
+fn add_found(place: Option<usize>, found: &mut Vec<usize>) -> Result<(), AllocError>
+    ensures { OnOk result (found.new.items ≡ found.old.items ++ cons_option place []) }
 {
     match place {
         None => Ok(()),
         Some(place) => {
-            found.push(*place)?;
+            found.push(place)?;
             Ok(())
         }
     }
 }
 
 fn parents_in(alloc: Global, places: &Places, parents: &[Name]) -> Result<Vec<usize>, AllocError>
-    ensures { IfOk result (λ v. v.items ≡ filter_map (λ p. get (slice_cmp nat_cmp) places.now p.text) parents.now) }
+    ensures { IfOk result (λ v. v.items ≡ filter_map (λ p. place_in places.now p.text) parents.now) }
 {
     let mut found = Vec::new(alloc);
     'parents: for parent in parents {
-        add_found(places.get(&parent.text), &mut found)?;
+        add_found(place_of(places, &parent.text), &mut found)?;
     }
     Ok(found)
 }
@@ -75,7 +96,7 @@ fn all_parents(
     places: &Places,
     classes: &[ClassDecl],
 ) -> Result<Vec<Items<usize>>, AllocError>
-    ensures { IfOk result (λ v. v.items ≡ map (λ c. filter_map (λ p. get (slice_cmp nat_cmp) places.now p.text) c.parents) classes.now) }
+    ensures { IfOk result (λ v. v.items ≡ map (λ c. filter_map (λ p. place_in places.now p.text) c.parents) classes.now) }
 {
     let mut rows = Vec::new(alloc);
     'classes: for class in classes {

@@ -1,6 +1,5 @@
-use Rattle.std.proofs.Common.{nat_cmp, refl}
-use Rattle.std.specs.BTreeMap.{get}
-use Rattle.std.specs.Cmp.Lexicographic.{slice_cmp}
+use Rattle.std.proofs.Common.{refl}
+use Rattle.class_rules.specs.Numbering.{place_in}
 use Rattle.class_decls.proofs.Numbered.{filter_map_more}
 use Rattle.class_rules.proofs.places.parents_in.Goals as goal
 
@@ -9,7 +8,6 @@ parents-preserved c =
     rw (
       c.in_ok-add_found.ensures,
       c.parents.invariant,
-      c.get.ensures.value,
-      filter_map_more (λ p. get
-          (slice_cmp nat_cmp) c.args.places.now p.text) c.args.parents.now _ _ c.parents-test.true c.parent-item.is,
+      c.place_of.ensures,
+      filter_map_more (λ p. place_in c.args.places.now p.text) c.args.parents.now _ _ c.parents-test.true c.parent-item.is,
     ) refl

@@ -1,10 +1,9 @@
 use Rattle.std.proofs.Common.{◌≡◌, take}
-use Rattle.std.proofs.Common.{List, ℕ, nat_cmp}
-use Rattle.std.specs.BTreeMap.{get}
-use Rattle.std.specs.Cmp.Lexicographic.{slice_cmp}
+use Rattle.std.proofs.Common.{List, ℕ}
+use Rattle.class_rules.specs.Numbering.{place_in}
 use Rattle.std.specs.List.{position_from}
 use Rattle.class_decls.specs.Texts.{same_text}
 use Rattle.class_rules.proofs.places.places_of.Given as goal
 
 abbrev pub invariant-classes : goal.invariant-classes
-invariant-classes l = (t : List ℕ) → get (slice_cmp nat_cmp) l.places t ≡ position_from (λ c. same_text c.name.text t) 0 (take l.i l.classes)
+invariant-classes l = (t : List ℕ) → place_in l.places t ≡ position_from (λ c. same_text c.name.text t) 0 (take l.i l.classes)
