@@ -17,7 +17,7 @@ pub type OpNo = u32;
 pub type AssocNo = u32;
 
 /// An end of an association.
-#[derive(Clone, Copy, Debug, PartialEq, Eq, PartialOrd, Ord)]
+#[derive(Clone, Copy, Debug, PartialEq, Eq, PartialOrd, Ord, Hash)]
 pub enum End {
     First,
     Second,

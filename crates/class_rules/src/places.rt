@@ -17,12 +17,7 @@ use use_lists::Items;
 pub(crate) type Places = HashMap<String, usize>;
 
 /// Puts a place at a name, of which it makes a copy.
-fn put_place(
-    alloc: Global,
-    places: &mut Places,
-    text: &str,
-    place: usize,
-) -> Result<(), AllocError>
+fn put_place(alloc: Global, places: &mut Places, text: &str, place: usize) -> Result<(), AllocError>
     ensures { OnOk result ((t : List ℕ) → place_in places.new t ≡ update bytes_eq (place_in places.old) text.now (Some place) t) }
 {
     let name = String::from_str(alloc, text)?;

@@ -34,7 +34,7 @@ use Rattle.object_state.proofs.Keyed.{both, by_test, equal, filter_insert_in, fi
 use Rattle.object_state.proofs.Empty.{empty_valid}
 use Rattle.object_state.proofs.Kept.{by_number}
 use Rattle.invariant_cache.specs.Broken.{Navigation, unless_allowed}
-use Rattle.invariant_cache.specs.Counts.{Counts, StandsFor, count_in, found}
+use Rattle.invariant_cache.specs.Counts.{Counts, StandsFor, count_in, counted, found}
 use Rattle.invariant_cache.specs.Noting.{Recounts, may_start, one_less, one_more, reaches, recount, started}
 use Rattle.invariant_cache.proofs.Modelled.{class_count, starts}
 
@@ -280,7 +280,7 @@ follows m c old new r s stands f valid = record {
 pub begins : (m : ObjectModel) (counts broken : List (Navigation × ℕ)) → counts ≡ [] → broken ≡ [] → StandsFor m (record { counts = counts; broken = broken }) empty
 begins m counts broken e f = record {
   valid = empty_valid (layout_of m);
-  counts = λ n. ap (λ (es : List (Navigation × ℕ)). found es n) e;
+  counts = λ n. ap (λ (es : List (Navigation × ℕ)). counted es n) e;
   broken = λ n. ap (λ (es : List (Navigation × ℕ)). found es n) f
       ∙ sym (ap (λ (es : List (Navigation × ℕ)). option_and_then (unless_allowed m n) (found es n)) e);
 }

@@ -12,7 +12,7 @@ use Rattle.object_state.specs.declared.change.LinkChange.{LinkChange}
 use Rattle.object_state.proofs.Hits.{same_end}
 use Rattle.object_state.proofs.Keyed.{by_test}
 use Rattle.invariant_cache.specs.Broken.{Navigation, unless_allowed}
-use Rattle.invariant_cache.specs.Counts.{Counts, found, navigation_cmp}
+use Rattle.invariant_cache.specs.Counts.{Counts, counted, found, navigation_cmp}
 use Rattle.invariant_cache.specs.Noting.{Recount, Recounts, at, linked, may_start, started, to_first, to_second}
 use Rattle.invariant_cache.proofs.Navigations.{at_itself, at_parts, by_navigation}
 
@@ -33,47 +33,47 @@ at_other k n f count h = skip (is_at (navigation_cmp n) k) (f count) count h
 
 module _ (m : ObjectModel) where
   -- the same of the counts that there are
-  pub recounts_as : (f g : Recount) (old new : Counts) → Recounts m f old new → ((n : Navigation) → f n (found old.counts n) ≡ g n (found old.counts n))
+  pub recounts_as : (f g : Recount) (old new : Counts) → Recounts m f old new → ((n : Navigation) → f n (counted old.counts n) ≡ g n (counted old.counts n))
       → Recounts m g old new
   recounts_as f g old new r h = record { counts = λ n. r.counts n ∙ h n; broken = r.broken }
 
   -- nothing is replaced
-  pub recounts_none : (g : Recount) (k : Counts) → ((n : Navigation) → found k.counts n ≡ g n (found k.counts n)) → Recounts m g k k
+  pub recounts_none : (g : Recount) (k : Counts) → ((n : Navigation) → counted k.counts n ≡ g n (counted k.counts n)) → Recounts m g k k
   recounts_none g k h = record { counts = h; broken = λ s. s }
 
   -- one after the other
   pub recounts_then : (f g h : Recount) (a b c : Counts) → Recounts m f a b → Recounts m g b c → ((n : Navigation) (x : Option ℕ) → g n (f n x) ≡ h n x)
       → Recounts m h a c
   recounts_then f g h a b c r t e = record {
-    counts = λ n. t.counts n ∙ ap (g n) (r.counts n) ∙ e n (found a.counts n);
+    counts = λ n. t.counts n ∙ ap (g n) (r.counts n) ∙ e n (counted a.counts n);
     broken = λ s. t.broken (r.broken s);
   }
 
   -- another count at a navigation, and in the list if it is not allowed
-  pub recounts_at : (old new : Counts) (k : Navigation) (v w : Option ℕ) → ((n : Navigation) → found new.counts n ≡ at k (λ x. v) n (found old.counts n))
+  pub recounts_at : (old new : Counts) (k : Navigation) (v w : Option ℕ) → ((n : Navigation) → counted new.counts n ≡ at k (λ x. v) n (counted old.counts n))
       → ((n : Navigation) → found new.broken n ≡ at k (λ x. w) n (found old.broken n)) → w ≡ option_and_then (unless_allowed m k) v
       → Recounts m (at k (λ x. v)) old new
   recounts_at old new k v w counts broken both = record {
     counts = counts;
     broken = λ split n. by_navigation n k
         (λ e. rw e (broken k ∙ at_here k (λ x. w) (found old.broken k) ∙ both ∙ ap (option_and_then (unless_allowed m k)) (sym (counts k
-        ∙ at_here k (λ x. v) (found old.counts k)))))
+        ∙ at_here k (λ x. v) (counted old.counts k)))))
         (λ h. broken n ∙ at_other k n (λ x. w) (found old.broken n) h ∙ split n ∙ ap (option_and_then (unless_allowed m n)) (sym (counts n
-        ∙ at_other k n (λ x. v) (found old.counts n) h)));
+        ∙ at_other k n (λ x. v) (counted old.counts n) h)));
   }
 
   -- a navigation that has no count keeps none
-  pub recounts_absent : (k : Counts) (n : Navigation) (f : Option ℕ → Option ℕ) → found k.counts n ≡ None → f None ≡ None → Recounts m (at n f) k k
+  pub recounts_absent : (k : Counts) (n : Navigation) (f : Option ℕ → Option ℕ) → counted k.counts n ≡ None → f None ≡ None → Recounts m (at n f) k k
   recounts_absent k n f none stays = recounts_none (at n f) k (λ q. by_navigation q n
-      (λ e. rw e (none ∙ sym stays ∙ ap f (sym none) ∙ sym (at_here n f (found k.counts n))))
-      (λ h. sym (at_other n q f (found k.counts q) h)))
+      (λ e. rw e (none ∙ sym stays ∙ ap f (sym none) ∙ sym (at_here n f (counted k.counts n))))
+      (λ h. sym (at_other n q f (counted k.counts q) h)))
 
   -- a navigation that has one gets another
   pub recounts_present : (old new : Counts) (n : Navigation) (f : Option ℕ → Option ℕ) (v : Option ℕ) → Recounts m (at n (λ x. v)) old new
-      → f (found old.counts n) ≡ v → Recounts m (at n f) old new
+      → f (counted old.counts n) ≡ v → Recounts m (at n f) old new
   recounts_present old new n f v r is = recounts_as (at n (λ x. v)) (at n f) old new r (λ q. by_navigation q n
-      (λ e. rw e (at_here n (λ x. v) (found old.counts n) ∙ sym is ∙ sym (at_here n f (found old.counts n))))
-      (λ h. at_other n q (λ x. v) (found old.counts q) h ∙ sym (at_other n q f (found old.counts q) h)))
+      (λ e. rw e (at_here n (λ x. v) (counted old.counts n) ∙ sym is ∙ sym (at_here n f (counted old.counts n))))
+      (λ h. at_other n q (λ x. v) (counted old.counts q) h ∙ sym (at_other n q f (counted old.counts q) h)))
 
   -- the same, where what was there before is known otherwise
   pub recounts_from : (f : Recount) (a b new : Counts) → a ≡ b → Recounts m f a new → Recounts m f b new
@@ -86,7 +86,7 @@ module _ (m : ObjectModel) where
 
   pub recounts_unless : (n : Navigation) (b : Bool) (v : Option ℕ) (k : Counts) → false ≡ b → Recounts m (at n (λ x. cond b v x)) k k
   recounts_unless n b v k h = subst (λ (z : Bool). Recounts m (at n (λ x. cond z v x)) k k) h (recounts_none (at n (λ x. x)) k (λ q.
-      by_navigation q n (λ e. rw e (sym (at_here n (λ x. x) (found k.counts n)))) (λ h. sym (at_other n q (λ x. x) (found k.counts q) h))))
+      by_navigation q n (λ e. rw e (sym (at_here n (λ x. x) (counted k.counts n)))) (λ h. sym (at_other n q (λ x. x) (counted k.counts q) h))))
 
 reached : (a b : Bool) → (a && true && b) ≡ (a && b)
 reached a b = and_true a b

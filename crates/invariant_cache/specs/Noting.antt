@@ -12,7 +12,7 @@ use Rattle.object_state.specs.declared.change.Change.TheVariants.{Create, Remove
 use Rattle.object_state.specs.declared.change.LinkChange.{LinkChange}
 use Rattle.object_state.specs.Looks.{has_at}
 use Rattle.invariant_cache.specs.Broken.{Navigation}
-use Rattle.invariant_cache.specs.Counts.{Counts, IsSplit, found, navigation_cmp}
+use Rattle.invariant_cache.specs.Counts.{Counts, IsSplit, counted, navigation_cmp}
 
 -- a new count of a navigation, by the old one
 abbrev pub Recount : Type 0
@@ -20,7 +20,7 @@ Recount = Navigation → Option ℕ → Option ℕ
 
 -- each count is replaced so
 pub record Recounts (m : ObjectModel) (f : Recount) (old new : Counts) : Type 0 where
-  pub counts : (n : Navigation) → found new.counts n ≡ f n (found old.counts n)
+  pub counts : (n : Navigation) → counted new.counts n ≡ f n (counted old.counts n)
   pub broken : IsSplit m old → IsSplit m new
 
 -- at one navigation alone

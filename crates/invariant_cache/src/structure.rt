@@ -7,14 +7,14 @@ ghost use Rattle.object_state.specs.Faults.{Fits};
 ghost use Rattle.object_state.specs.Layouts.{layout_of};
 ghost use Rattle.object_state.specs.State.{State, empty};
 ghost use Rattle.invariant_cache.specs.Broken.{Navigation, broken, unless_allowed, violation_at};
-ghost use Rattle.invariant_cache.specs.Counts.{StandsFor, found, navigation_cmp};
+ghost use Rattle.invariant_cache.specs.Counts.{StandsFor, counted, found, navigation_cmp};
 ghost use Rattle.invariant_cache.specs.Noting.{Recounts, at, linked, may_start, one_less, one_more, recount, started, to_first, to_second};
 
 use class_model::{AssocNo, ClassModel, ClassNo, End, Multiplicity};
 use object_state::{Change, LinkChange, changes_keep_states_valid};
 use ocl_values::ObjNo;
 use std::alloc::{AllocError, Global};
-use std::collections::BTreeMap;
+use std::collections::{BTreeMap, HashMap};
 use std::marker::Model;
 use use_lists::Items;
 
@@ -37,7 +37,7 @@ pub struct Violation {
 /// changes of a state, and so knows the multiplicities that are broken without a walk through the state.
 #[derive(Drop)]
 pub struct Structure {
-    counts: BTreeMap<Navigation, u32>,
+    counts: HashMap<Navigation, u32>,
     /// Those of the counts that are not allowed.
     broken: BTreeMap<Navigation, u32>,
 }
@@ -51,22 +51,41 @@ impl Model for Structure {
 }
 
 /// Keeps a count at a navigation.
-fn put(
-    map: &mut BTreeMap<Navigation, u32>,
+fn put_count(
+    counts: &mut HashMap<Navigation, u32>,
     navigation: Navigation,
     count: u32,
 ) -> Result<(), AllocError>
-    ensures { OnOk result ((n : Navigation) → found map.new.entries n ≡ at navigation (λ old. Some count) n (found map.old.entries n)) }
+    ensures { OnOk result ((n : Navigation) → counted counts.new.entries n ≡ at navigation (λ old. Some count) n (counted counts.old.entries n)) }
 {
-    map.insert(navigation, count)?;
+    counts.insert(navigation, count)?;
     Ok(())
 }
 
 /// Forgets the count at a navigation.
-fn take(map: &mut BTreeMap<Navigation, u32>, navigation: Navigation)
-    ensures { (n : Navigation) → found map.new.entries n ≡ at navigation (λ old. None) n (found map.old.entries n) }
+fn take_count(counts: &mut HashMap<Navigation, u32>, navigation: Navigation)
+    ensures { (n : Navigation) → counted counts.new.entries n ≡ at navigation (λ old. None) n (counted counts.old.entries n) }
 {
-    map.remove(&navigation);
+    counts.remove(&navigation);
+}
+
+/// Lists a count at a navigation.
+fn put_broken(
+    broken: &mut BTreeMap<Navigation, u32>,
+    navigation: Navigation,
+    count: u32,
+) -> Result<(), AllocError>
+    ensures { OnOk result ((n : Navigation) → found broken.new.entries n ≡ at navigation (λ old. Some count) n (found broken.old.entries n)) }
+{
+    broken.insert(navigation, count)?;
+    Ok(())
+}
+
+/// Lists no count at a navigation.
+fn take_broken(broken: &mut BTreeMap<Navigation, u32>, navigation: Navigation)
+    ensures { (n : Navigation) → found broken.new.entries n ≡ at navigation (λ old. None) n (found broken.old.entries n) }
+{
+    broken.remove(&navigation);
 }
 
 /// A count, if so many objects are not allowed.
@@ -145,7 +164,7 @@ impl Structure {
         ensures { (m : _) → StandsFor m result empty }
     {
         Structure {
-            counts: BTreeMap::new(alloc),
+            counts: HashMap::new(alloc),
             broken: BTreeMap::new(alloc),
         }
     }
@@ -159,13 +178,13 @@ impl Structure {
     ) -> Result<(), AllocError>
         ensures { OnOk result (Recounts model.now (at navigation (λ old. Some count)) self.old self.new) }
     {
-        put(&mut self.counts, navigation, count)?;
+        put_count(&mut self.counts, navigation, count)?;
         match unless_allowed(model, navigation, count) {
             None => {
-                take(&mut self.broken, navigation);
+                take_broken(&mut self.broken, navigation);
                 Ok(())
             }
-            Some(count) => put(&mut self.broken, navigation, count),
+            Some(count) => put_broken(&mut self.broken, navigation, count),
         }
     }
 
@@ -173,8 +192,8 @@ impl Structure {
     fn forget(&mut self, navigation: Navigation)
         ensures { (m : ObjectModel) → Recounts m (at navigation (λ old. None)) self.old self.new }
     {
-        take(&mut self.counts, navigation);
-        take(&mut self.broken, navigation);
+        take_count(&mut self.counts, navigation);
+        take_broken(&mut self.broken, navigation);
     }
 
     /// One object more is reached.

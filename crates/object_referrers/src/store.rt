@@ -47,20 +47,29 @@ impl ReferrerStore {
         }
     }
 
-    /// Carries a change out that fits, and gives the change that takes it back. After `AllocError`
-    /// the state is as it was.
+    /// Carries a change out that fits. After `AllocError` the state is as it was.
+    pub fn carry_out(&mut self, change: &Change) -> Result<(), AllocError>
+        requires { Fits self.old.layout self.old.state change.now }
+        ensures ok { OnOk result (self.new ≡ record self.old { state = apply self.old.layout self.old.state change.now }) }
+        ensures err { OnErr result (self.new ≡ self.old) }
+    {
+        self.store.state_is_valid();
+        let leaving = self
+            .referrers
+            .prepare(self.alloc, self.store.layout(), change)?;
+        self.store.carry_out(change)?;
+        self.referrers.forget(leaving);
+        Ok(())
+    }
+
+    /// The same, and gives the change that takes it back.
     pub fn apply(&mut self, change: Change) -> Result<Change, AllocError>
         requires { Fits self.old.layout self.old.state change }
         ensures back { IfOk result (λ back. back ≡ inverse change) }
         ensures applied { OnOk result (self.new ≡ record self.old { state = apply self.old.layout self.old.state change }) }
         ensures refused { OnErr result (self.new ≡ self.old) }
     {
-        self.store.state_is_valid();
-        let leaving = self
-            .referrers
-            .prepare(self.alloc, self.store.layout(), &change)?;
-        let back = self.store.apply(change)?;
-        self.referrers.forget(leaving);
-        Ok(back)
+        self.carry_out(&change)?;
+        Ok(change.inverse())
     }
 }

@@ -1,5 +1,5 @@
 -- Lists of entries after calls that put and take.
-use Rattle.std.proofs.Common.{◌≡◌, List, None, sym, ap, ◌∙◌, subst, Ordering}
+use Rattle.std.proofs.Common.{◌≡◌, List, Option, None, sym, ap, ◌∙◌, subst, Ordering}
 use Rattle.std.specs.BTreeMap.{insert_entry, is_at}
 use Rattle.std.specs.Cmp.{IsTotalOrder}
 use Rattle.std.specs.Map.{lookup, remove_entry}
@@ -19,8 +19,8 @@ pub if_ok : {T E : Type 0} {P Q : T → Type 0} (r : Result T E) → ((x : T) �
 if_ok (Ok x) h p = h x p
 if_ok (Err e) h p = tt
 
-pub tied_as : (l l' : List ((ℕ × ℕ) × (ℕ × ℕ))) (s s' : List ((ℕ × (ℕ × ℕ)) × ℕ)) (e e' f f' : List (((ℕ × ℕ) × ℕ) × ℕ))
-    → l' ≡ l → s' ≡ s → e' ≡ e → f' ≡ f → LinksAreTied l s e f → LinksAreTied l' s' e' f'
+pub tied_as : (l l' : List ((ℕ × ℕ) × (ℕ × ℕ))) (s s' : ℕ × (ℕ × ℕ) → Option ℕ) (e e' f f' : List (((ℕ × ℕ) × ℕ) × ℕ))
+    → l' ≡ l → ((k : ℕ × (ℕ × ℕ)) → s' k ≡ s k) → e' ≡ e → f' ≡ f → LinksAreTied l s e f → LinksAreTied l' s' e' f'
 tied_as l l' s s' e e' f f' p q r u t =
-    subst (λ x. LinksAreTied x s' e' f') (sym p) (subst (λ x. LinksAreTied l x e' f') (sym q) (subst (λ x. LinksAreTied l s x f') (sym r)
+    subst (λ x. LinksAreTied x s' e' f') (sym p) (subst (λ x. LinksAreTied l x e' f') (λ i k. sym (q k) i) (subst (λ x. LinksAreTied l s x f') (sym r)
     (subst (λ x. LinksAreTied l s e x) (sym u) t)))

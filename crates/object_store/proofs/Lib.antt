@@ -1,6 +1,7 @@
 pub mod Listed
 pub mod Grouped
 pub mod Tied
+pub mod Stamped
 pub mod Links
 pub mod Named
 pub mod Classed
@@ -11,3 +12,4 @@ pub mod Tables
 pub mod Carried
 mod Cells
 mod Pages
+mod PairRows

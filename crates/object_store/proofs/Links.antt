@@ -6,7 +6,7 @@ use Rattle.std.specs.BTreeMap.Range.{entries_between}
 use Rattle.std.specs.Cmp.{IsTotalOrder, nat_cmp_total, on_total, then_total}
 use Rattle.std.specs.List.{filter, find}
 use Rattle.std.specs.List.Sorted.{IsStrictlySortedBy}
-use Rattle.std.specs.Map.{keys_of, lookup, remove_entry}
+use Rattle.std.specs.Map.{keys_of, lookup, remove_entry, update}
 use Rattle.std.specs.Option.{option_and_then, option_map}
 use Rattle.std.specs.Ordering.{nat_cmp, ordering_then}
 use Rattle.std.specs.Prelude.{nat_eq}
@@ -15,28 +15,20 @@ use Rattle.std.proofs.lemmas.Cmp.{tied_itself}
 use Rattle.std.proofs.lemmas.Bool.{eq-eqb, eqb-true}
 use Rattle.std.proofs.lemmas.Map.Lookups.{CmpEqualImpliesEq, exact_pairs, exact_unsigned}
 use Rattle.object_state.specs.State.{link_cmp}
-use Rattle.object_store.specs.Indexes.{LinksAreTied, by_first, by_pair, by_second, end_cmp, pair_cmp, pairs_in, stamp_in}
+use Rattle.object_store.specs.Indexes.{LinksAreTied, by_first, by_second, end_cmp, same_pair, stamp_in}
 use Rattle.object_state.proofs.Back.{link_exact, link_total}
 use Rattle.object_state.proofs.Keyed.{both, both_true, equal, find_none, find_some, found_insert, found_remove, map_twice, some≢none, sorted_insert}
 use Rattle.object_state.proofs.Keyed.{sorted_remove}
+use Rattle.object_store.proofs.Stamped.{stamped_less, stamped_more}
 use Rattle.object_store.proofs.Grouped.{in_range, lookup_selected, selected, sorted_selected}
 use Rattle.object_store.proofs.Listed.{same_entries, same_filter}
 use Rattle.object_store.proofs.Tied.{indexes_less, indexes_more}
-
-pub pair_total : IsTotalOrder pair_cmp
-pair_total = then_total (on_total (λ (t : ℕ × (ℕ × ℕ)). t.0) nat_cmp_total) (on_total (λ (t : ℕ × (ℕ × ℕ)). t.1) link_total)
-
-pub pair_exact : CmpEqualImpliesEq pair_cmp
-pair_exact = exact_pairs nat_cmp link_cmp exact_unsigned link_exact
 
 pub end_total : IsTotalOrder end_cmp
 end_total = then_total (on_total (λ (t : (ℕ × ℕ) × ℕ). t.0) link_total) (on_total (λ (t : (ℕ × ℕ) × ℕ). t.1) nat_cmp_total)
 
 pub end_exact : CmpEqualImpliesEq end_cmp
 end_exact = exact_pairs link_cmp nat_cmp link_exact exact_unsigned
-
-whole_pair : (d e : (ℕ × ℕ) × (ℕ × ℕ)) → by_pair d ≡ by_pair e → d ≡ e
-whole_pair d e s = λ i. (((s i).0.0, (s i).1), (s i).0.1)
 
 whole_first : (d e : (ℕ × ℕ) × (ℕ × ℕ)) → by_first d ≡ by_first e → d ≡ e
 whole_first d e s = λ i. (((s i).0.0.0, (s i).0.1), ((s i).0.0.1, (s i).1))
@@ -51,10 +43,9 @@ sorted_none R = tt
 nothing : {X Y : Type 0} (x : X) (y : Y) → (None ≡ Some y) ↔ (None ≡ Some x)
 nothing x y = (λ e. absurd (some≢none y (sym e)), λ e. absurd (some≢none x (sym e)))
 
-pub tied_empty : LinksAreTied [] [] [] []
+pub tied_empty : LinksAreTied [] (λ k. None) [] []
 tied_empty = record {
   ordered = sorted_none link_cmp;
-  stamps_ordered = sorted_none pair_cmp;
   seconds_ordered = sorted_none end_cmp;
   firsts_ordered = sorted_none end_cmp;
   small = λ k p e. absurd (some≢none p (sym e));
@@ -63,7 +54,7 @@ tied_empty = record {
   firsts_tied = λ e. nothing e.1 e.1.0;
 }
 
-module _ (links : List ((ℕ × ℕ) × (ℕ × ℕ))) (stamps : List ((ℕ × (ℕ × ℕ)) × ℕ)) (seconds firsts : List (((ℕ × ℕ) × ℕ) × ℕ))
+module _ (links : List ((ℕ × ℕ) × (ℕ × ℕ))) (stamps : ℕ × (ℕ × ℕ) → Option ℕ) (seconds firsts : List (((ℕ × ℕ) × ℕ) × ℕ))
     (tied : LinksAreTied links stamps seconds firsts) where
   is_pair : ℕ → ℕ → ℕ → (ℕ × ℕ) × (ℕ × ℕ) → Bool
   is_pair a f g e = nat_eq e.0.0 a && nat_eq e.1.0 f && nat_eq e.1.1 g
@@ -72,11 +63,11 @@ module _ (links : List ((ℕ × ℕ) × (ℕ × ℕ))) (stamps : List ((ℕ × (
   inside a b e = cc
 
   -- the stamp of a pair
-  pub stamp_found : (a f g : ℕ) → lookup (is_at (pair_cmp (a, (f, g)))) stamps ≡ stamp_in links a f g
+  pub stamp_found : (a f g : ℕ) → stamps (a, (f, g)) ≡ stamp_in links a f g
   stamp_found a f g = by (find (λ e. nat_eq e.0.0 a && nat_eq e.1.0 f && nat_eq e.1.1 g) links) refl
     where
       none : (u : Option ℕ) → find (λ e. nat_eq e.0.0 a && nat_eq e.1.0 f && nat_eq e.1.1 g) links ≡ None
-          → lookup (is_at (pair_cmp (a, (f, g)))) stamps ≡ u → u ≡ None
+          → stamps (a, (f, g)) ≡ u → u ≡ None
       none None h t = refl
       none (Some n) h t =
           let l : lookup (is_at (link_cmp (a, n))) links ≡ Some (f, g) = (tied.stamps_tied ((a, n), (f, g))).0 t in
@@ -86,8 +77,8 @@ module _ (links : List ((ℕ × ℕ) × (ℕ × ℕ))) (stamps : List ((ℕ × (
           (eq-eqb g g refl)) ∙ r.2))
 
       by : (u : Option ((ℕ × ℕ) × (ℕ × ℕ))) → find (λ e. nat_eq e.0.0 a && nat_eq e.1.0 f && nat_eq e.1.1 g) links ≡ u
-          → lookup (is_at (pair_cmp (a, (f, g)))) stamps ≡ option_map (λ e. e.0.1) u
-      by None h = none (lookup (is_at (pair_cmp (a, (f, g)))) stamps) h refl
+          → stamps (a, (f, g)) ≡ option_map (λ e. e.0.1) u
+      by None h = none (stamps (a, (f, g))) h refl
       by (Some e) h =
           let r = find_some link_total (λ e. nat_eq e.0.0 a && nat_eq e.1.0 f && nat_eq e.1.1 g) links e h tied.ordered in
           let p = both (nat_eq e.0.0 a && nat_eq e.1.0 f) (nat_eq e.1.1 g) r.1 in
@@ -95,7 +86,7 @@ module _ (links : List ((ℕ × ℕ) × (ℕ × ℕ))) (stamps : List ((ℕ × (
           let first : e.0.0 ≡ a = eqb-true _ _ q.0 in
           let second : e.1.0 ≡ f = eqb-true _ _ q.1 in
           let third : e.1.1 ≡ g = eqb-true _ _ p.1 in
-          subst (λ (k : ℕ × (ℕ × ℕ)). lookup (is_at (pair_cmp k)) stamps ≡ Some e.0.1) (λ i. (first i, (second i, third i))) ((tied.stamps_tied e).1 r.0)
+          subst (λ (k : ℕ × (ℕ × ℕ)). stamps k ≡ Some e.0.1) (λ i. (first i, (second i, third i))) ((tied.stamps_tied e).1 r.0)
 
   no_entry : (u : Option ℕ) → ((n : ℕ) → u ≡ Some n → ⊥) → u ≡ None
   no_entry None h = refl
@@ -113,42 +104,38 @@ module _ (links : List ((ℕ × ℕ) × (ℕ × ℕ))) (stamps : List ((ℕ × (
   module _ (a st f g : ℕ) where
     -- a link more
     pub tied_more : lookup (is_at (link_cmp (a, st))) links ≡ None → stamp_in links a f g ≡ None → st < 2 ^ 32
-        → LinksAreTied (insert_entry link_cmp links (a, st) (f, g)) (insert_entry pair_cmp stamps (a, (f, g)) st) (insert_entry end_cmp seconds
-        ((a, f), st) g) (insert_entry end_cmp firsts ((a, g), st) f)
-    tied_more free fresh small =
-        let pair_free : lookup (is_at (pair_cmp (a, (f, g)))) stamps ≡ None = stamp_found a f g ∙ fresh in
+        → (new : ℕ × (ℕ × ℕ) → Option ℕ) → ((k : ℕ × (ℕ × ℕ)) → new k ≡ update same_pair stamps (a, (f, g)) (Some st) k)
+        → LinksAreTied (insert_entry link_cmp links (a, st) (f, g)) new (insert_entry end_cmp seconds ((a, f), st) g) (insert_entry end_cmp firsts
+        ((a, g), st) f)
+    tied_more free fresh small new more =
+        let pair_free : stamps (a, (f, g)) ≡ None = stamp_found a f g ∙ fresh in
         record {
           ordered = sorted_insert link_total links (a, st) (f, g) tied.ordered;
-          stamps_ordered = sorted_insert pair_total stamps (a, (f, g)) st tied.stamps_ordered;
           seconds_ordered = sorted_insert end_total seconds ((a, f), st) g tied.seconds_ordered;
           firsts_ordered = sorted_insert end_total firsts ((a, g), st) f tied.firsts_ordered;
-          small = λ k p e. more k p (found_insert link_total link_exact links (a, st) (f, g) k p e);
-          stamps_tied = indexes_more link_total link_exact pair_total pair_exact by_pair whole_pair links stamps (
-            (a, st),
-            (f, g),
-          ) tied.stamps_tied free pair_free;
+          small = λ k p e. below k p (found_insert link_total link_exact links (a, st) (f, g) k p e);
+          stamps_tied = stamped_more links stamps new tied.stamps_tied ((a, st), (f, g)) more free pair_free;
           seconds_tied = indexes_more link_total link_exact end_total end_exact by_first whole_first links seconds ((a, st), (f, g)) tied.seconds_tied free
               (first_free a f st free);
           firsts_tied = indexes_more link_total link_exact end_total end_exact by_second whole_second links firsts ((a, st), (f, g)) tied.firsts_tied free
               (second_free a g st free);
         }
       where
-        more : (k p : ℕ × ℕ) → ((k ≡ (a, st)) × ((f, g) ≡ p)) ⊎ (lookup (is_at (link_cmp k)) links ≡ Some p) → k.1 < 2 ^ 32
-        more k p (inl s) = subst (λ (x : ℕ × ℕ). x.1 < 2 ^ 32) (sym (s.0)) small
-        more k p (inr e) = tied.small k p e
+        below : (k p : ℕ × ℕ) → ((k ≡ (a, st)) × ((f, g) ≡ p)) ⊎ (lookup (is_at (link_cmp k)) links ≡ Some p) → k.1 < 2 ^ 32
+        below k p (inl s) = subst (λ (x : ℕ × ℕ). x.1 < 2 ^ 32) (sym (s.0)) small
+        below k p (inr e) = tied.small k p e
 
     -- a link less
     pub tied_less : lookup (is_at (link_cmp (a, st))) links ≡ Some (f, g)
-        → LinksAreTied (remove_entry (is_at (link_cmp (a, st))) links) (remove_entry (is_at (pair_cmp (a, (f, g)))) stamps) (remove_entry (is_at (end_cmp
-        ((a, f), st))) seconds) (remove_entry (is_at (end_cmp ((a, g), st))) firsts)
-    tied_less there = record {
+        → (new : ℕ × (ℕ × ℕ) → Option ℕ) → ((k : ℕ × (ℕ × ℕ)) → new k ≡ update same_pair stamps (a, (f, g)) None k)
+        → LinksAreTied (remove_entry (is_at (link_cmp (a, st))) links) new (remove_entry (is_at (end_cmp ((a, f), st))) seconds) (remove_entry (is_at (end_cmp
+        ((a, g), st))) firsts)
+    tied_less there new less = record {
       ordered = sorted_remove link_total (is_at (link_cmp (a, st))) links tied.ordered;
-      stamps_ordered = sorted_remove pair_total (is_at (pair_cmp (a, (f, g)))) stamps tied.stamps_ordered;
       seconds_ordered = sorted_remove end_total (is_at (end_cmp ((a, f), st))) seconds tied.seconds_ordered;
       firsts_ordered = sorted_remove end_total (is_at (end_cmp ((a, g), st))) firsts tied.firsts_ordered;
       small = λ k p e. tied.small k p (found_remove link_total link_exact links (a, st) k p tied.ordered e).0;
-      stamps_tied = indexes_less link_total link_exact pair_total pair_exact by_pair whole_pair links stamps ((a, st), (f, g)) tied.stamps_tied tied.ordered
-          tied.stamps_ordered there;
+      stamps_tied = stamped_less links stamps new tied.stamps_tied ((a, st), (f, g)) less tied.ordered there;
       seconds_tied = indexes_less link_total link_exact end_total end_exact by_first whole_first links seconds ((a, st), (f, g)) tied.seconds_tied tied.ordered
           tied.seconds_ordered there;
       firsts_tied = indexes_less link_total link_exact end_total end_exact by_second whole_second links firsts ((a, st), (f, g)) tied.firsts_tied tied.ordered
@@ -289,14 +276,3 @@ module _ (near far : ℕ × ℕ → ℕ) (pack : ℕ → ℕ → ℕ × ℕ) (ne
       ∙ ap (λ (l : List (ℕ × ℕ)). map (λ (e : ℕ × ℕ). ((a, e.0), pack o e.1)) l) same_ends
       ∙ sym (map_twice (λ (e : ℕ × ℕ). ((a, e.0), pack o e.1)) (λ (e : (ℕ × ℕ) × (ℕ × ℕ)). (e.0.1, far e.1)) (filter (λ e. nat_eq e.0.0 a && nat_eq (near e.1) o) links))
       ∙ rebuilt links
-
--- the links of an association
-module _ (links : List ((ℕ × ℕ) × (ℕ × ℕ))) (up : IsStrictlySortedBy link_cmp (keys_of links))
-    (small : (k pair : ℕ × ℕ) → lookup (is_at (link_cmp k)) links ≡ Some pair → k.1 < 2 ^ 32) (a : ℕ) where
-  pub pairs_in_range : map (λ (e : (ℕ × ℕ) × (ℕ × ℕ)). e.1) (entries_between link_cmp (Included (a, 0)) (Included (a, 2 ^ 32 - 1)) links) ≡ pairs_in links a
-  pairs_in_range = ap (λ (l : List ((ℕ × ℕ) × (ℕ × ℕ))). map (λ (e : (ℕ × ℕ) × (ℕ × ℕ)). e.1) l)
-      (same_filter link_total link_exact _ (λ e. nat_eq e.0.0 a) links up (λ k v e.
-      in_range (nat_cmp a k.0) k.1 (2 ^ 32 - 1) (up_to k.1 (small k v e)) ∙ same_nat a k.0))
-    where
-      up_to : (n : ℕ) → n < 2 ^ 32 → n ≤ 2 ^ 32 - 1
-      up_to n h = omega arith

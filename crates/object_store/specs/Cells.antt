@@ -11,3 +11,9 @@ entries n (Some x ∷ cells) = (n, x) ∷ entries (n + 1) cells
 abbrev pub cell_in : {X : Type 0} → Option (Option X) → Option X
 cell_in None = None
 cell_in (Some c) = c
+
+-- the values, in the order of the cells
+abbrev pub values_in : {X : Type 0} → List (Option X) → List X
+values_in [] = []
+values_in (None ∷ cells) = values_in cells
+values_in (Some x ∷ cells) = x ∷ values_in cells

@@ -2,6 +2,7 @@
 use Rattle.std.specs.Prelude.{◌≡◌, ◌↔◌, ◌<◌, ◌^◌, ℕ, Bool, false, ◌&&◌, nat_eq, List, Option, Some, map, filter}
 use Rattle.std.specs.declared.cmp.Ordering.{Ordering}
 use Rattle.std.specs.BTreeMap.{is_at}
+use Rattle.std.specs.HashMap.{HashMap, get}
 use Rattle.std.specs.Cmp.Lexicographic.{pointwise}
 use Rattle.std.specs.List.{find, list_any}
 use Rattle.std.specs.List.Sorted.{IsStrictlySortedBy}
@@ -17,9 +18,13 @@ use Rattle.object_state.specs.Layouts.{is_a}
 use Rattle.object_state.specs.Looks.{end_of, has_at}
 use Rattle.object_state.specs.State.{link_cmp}
 
--- an association and the pair that it links; an association, an object and a stamp
-abbrev pub pair_cmp : ℕ × (ℕ × ℕ) → ℕ × (ℕ × ℕ) → Ordering
-pair_cmp a b = ordering_then (nat_cmp a.0 b.0) (link_cmp a.1 b.1)
+-- an association and the pair that it links, and the same of an association, an object and a stamp
+abbrev pub same_pair : ℕ × (ℕ × ℕ) → ℕ × (ℕ × ℕ) → Bool
+same_pair a b = nat_eq a.0 b.0 && (nat_eq a.1.0 b.1.0 && nat_eq a.1.1 b.1.1)
+
+-- the stamp at a pair
+abbrev pub stamp_at : {S : Type 0} → HashMap (ℕ × (ℕ × ℕ)) ℕ S → ℕ × (ℕ × ℕ) → Option ℕ
+stamp_at m k = get same_pair m k
 
 abbrev pub end_cmp : (ℕ × ℕ) × ℕ → (ℕ × ℕ) × ℕ → Ordering
 end_cmp a b = ordering_then (link_cmp a.0 b.0) (nat_cmp a.1 b.1)
@@ -28,9 +33,9 @@ end_cmp a b = ordering_then (link_cmp a.0 b.0) (nat_cmp a.1 b.1)
 abbrev pub Indexes : {K X J Y : Type 0} → (K → K → Ordering) → (J → J → Ordering) → (K × X → J × Y) → List (K × X) → List (J × Y) → Type 0
 Indexes {K} {X} R S entry es is = (e : K × X) → (lookup (is_at (S (entry e).0)) is ≡ Some (entry e).1) ↔ (lookup (is_at (R e.0)) es ≡ Some e.1)
 
--- a link by its pair; its ends, each by the other
-abbrev pub by_pair : (ℕ × ℕ) × (ℕ × ℕ) → (ℕ × (ℕ × ℕ)) × ℕ
-by_pair e = ((e.0.0, e.1), e.0.1)
+-- the pair of a link; its ends, each by the other
+abbrev pub by_pair : (ℕ × ℕ) × (ℕ × ℕ) → ℕ × (ℕ × ℕ)
+by_pair e = (e.0.0, e.1)
 
 abbrev pub by_first : (ℕ × ℕ) × (ℕ × ℕ) → ((ℕ × ℕ) × ℕ) × ℕ
 by_first e = (((e.0.0, e.1.0), e.0.1), e.1.1)
@@ -39,13 +44,12 @@ abbrev pub by_second : (ℕ × ℕ) × (ℕ × ℕ) → ((ℕ × ℕ) × ℕ) ×
 by_second e = (((e.0.0, e.1.1), e.0.1), e.1.0)
 
 -- links, with the stamps of pairs and the objects at both ends
-pub record LinksAreTied (links : List ((ℕ × ℕ) × (ℕ × ℕ))) (stamps : List ((ℕ × (ℕ × ℕ)) × ℕ)) (seconds firsts : List (((ℕ × ℕ) × ℕ) × ℕ)) : Type 0 where
+pub record LinksAreTied (links : List ((ℕ × ℕ) × (ℕ × ℕ))) (stamps : ℕ × (ℕ × ℕ) → Option ℕ) (seconds firsts : List (((ℕ × ℕ) × ℕ) × ℕ)) : Type 0 where
   pub ordered : IsStrictlySortedBy link_cmp (keys_of links)
-  pub stamps_ordered : IsStrictlySortedBy pair_cmp (keys_of stamps)
   pub seconds_ordered : IsStrictlySortedBy end_cmp (keys_of seconds)
   pub firsts_ordered : IsStrictlySortedBy end_cmp (keys_of firsts)
   pub small : (k : ℕ × ℕ) (pair : ℕ × ℕ) → lookup (is_at (link_cmp k)) links ≡ Some pair → k.1 < 2 ^ 32
-  pub stamps_tied : Indexes link_cmp pair_cmp by_pair links stamps
+  pub stamps_tied : (e : (ℕ × ℕ) × (ℕ × ℕ)) → (stamps (by_pair e) ≡ Some e.0.1) ↔ (lookup (is_at (link_cmp e.0)) links ≡ Some e.1)
   pub seconds_tied : Indexes link_cmp end_cmp by_first links seconds
   pub firsts_tied : Indexes link_cmp end_cmp by_second links firsts
 

@@ -2,3 +2,4 @@ pub mod Indexes
 pub mod Held
 pub mod Cells
 pub mod Pages
+pub mod Pairs

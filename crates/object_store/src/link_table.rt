@@ -1,29 +1,30 @@
-ghost use Rattle.std.specs.Prelude.{◌≡◌, ◌<◌, ◌-◌, ◌^◌, [], IfOk, OnOk, OnErr, None, Some, filter, length, map};
+ghost use Rattle.std.specs.Prelude.{◌≡◌, ◌<◌, ◌-◌, ◌^◌, [], ℕ, IfOk, OnOk, OnErr, None, Some, filter, length, map};
 ghost use Rattle.std.specs.BTreeMap.{insert_entry, is_at};
 ghost use Rattle.std.specs.BTreeMap.Range.{entries_between};
-ghost use Rattle.std.specs.Map.{lookup, remove_entry};
+ghost use Rattle.std.specs.Map.{lookup, remove_entry, update};
 ghost use Rattle.ocl_values.specs.declared.value.Value.TheVariants.{Obj};
 ghost use Rattle.object_state.specs.Looks.{has_at};
 ghost use Rattle.object_state.specs.State.{link_cmp};
 ghost use Rattle.std.specs.declared.ops.Bound.TheVariants.{Included};
-ghost use Rattle.object_store.specs.Indexes.{end_cmp, joined_in, pair_at, pair_cmp, pairs_in, stamp_in};
+ghost use Rattle.object_store.specs.Indexes.{end_cmp, joined_in, pair_at, pairs_in, same_pair, stamp_at, stamp_in};
 
 use crate::entries::{put, take};
+use crate::pair_map::PairMap;
 use crate::{EndKey, LinkKey, PairKey};
 use class_model::{AssocNo, End};
 use object_state::LinkChange;
 use ocl_values::{ObjNo, Value};
 use std::alloc::{AllocError, Global};
-use std::collections::BTreeMap;
+use std::collections::{BTreeMap, HashMap};
 use std::marker::Model;
 use use_lists::Items;
 
 /// Links by association and stamp. Contracts see the list of them in that order.
 #[derive(Drop)]
 pub(crate) struct LinkTable {
-    links: BTreeMap<LinkKey, (ObjNo, ObjNo)>,
+    links: PairMap<(ObjNo, ObjNo)>,
     /// The stamp of each linked pair.
-    stamps: BTreeMap<PairKey, u32>,
+    stamps: HashMap<PairKey, u32>,
     /// The second object of each link, by the first one.
     seconds: BTreeMap<EndKey, ObjNo>,
     /// The first object of each link, by the second one.
@@ -32,13 +33,13 @@ pub(crate) struct LinkTable {
 
 impl Model for LinkTable {
     ghost use Rattle.std.specs.Prelude.{List, ℕ};
-    ghost use Rattle.object_store.specs.Indexes.{LinksAreTied};
+    ghost use Rattle.object_store.specs.Indexes.{LinksAreTied, stamp_at};
 
     ghost Value = { List ((ℕ × ℕ) × (ℕ × ℕ)) };
 
-    ghost view = { λ t. t.links.entries };
+    ghost view = { λ t. t.links };
 
-    ghost invariant = { λ t. LinksAreTied t.links.entries t.stamps.entries t.seconds.entries t.firsts.entries };
+    ghost invariant = { λ t. LinksAreTied t.links (stamp_at t.stamps) t.seconds.entries t.firsts.entries };
 }
 
 /// A link by its pair.
@@ -60,6 +61,26 @@ fn second_key(link: &LinkChange) -> EndKey
     ensures { result ≡ ((link.now.assoc, link.now.second), link.now.stamp) }
 {
     ((link.assoc, link.second), link.stamp)
+}
+
+/// Puts a stamp at a pair.
+fn put_stamp(
+    stamps: &mut HashMap<PairKey, u32>,
+    pair: PairKey,
+    stamp: u32,
+) -> Result<(), AllocError>
+    ensures ok { OnOk result ((k : ℕ × (ℕ × ℕ)) → stamp_at stamps.new k ≡ update same_pair (stamp_at stamps.old) pair (Some stamp) k) }
+    ensures err { OnErr result ((k : ℕ × (ℕ × ℕ)) → stamp_at stamps.new k ≡ stamp_at stamps.old k) }
+{
+    stamps.insert(pair, stamp)?;
+    Ok(())
+}
+
+/// Takes the stamp of a pair out.
+fn take_stamp(stamps: &mut HashMap<PairKey, u32>, pair: PairKey)
+    ensures { (k : ℕ × (ℕ × ℕ)) → stamp_at stamps.new k ≡ update same_pair (stamp_at stamps.old) pair None k }
+{
+    stamps.remove(&pair);
 }
 
 /// Puts both ends of a link into their indexes, or neither.
@@ -88,31 +109,29 @@ fn put_ends(
 
 /// Puts a link into all indexes, or into none.
 fn put_indexes(
-    stamps: &mut BTreeMap<PairKey, u32>,
+    stamps: &mut HashMap<PairKey, u32>,
     seconds: &mut BTreeMap<EndKey, ObjNo>,
     firsts: &mut BTreeMap<EndKey, ObjNo>,
     link: &LinkChange,
 ) -> Result<(), AllocError>
-    requires pair { lookup (is_at (pair_cmp (link.now.assoc, (link.now.first, link.now.second)))) stamps.old.entries ≡ None }
+    requires pair { stamp_at stamps.old (link.now.assoc, (link.now.first, link.now.second)) ≡ None }
     requires end { lookup (is_at (end_cmp ((link.now.assoc, link.now.first), link.now.stamp))) seconds.old.entries ≡ None }
-    ensures stamps { OnOk result (stamps.new.entries ≡ insert_entry pair_cmp stamps.old.entries (
-      link.now.assoc,
-      (link.now.first, link.now.second),
-    ) link.now.stamp) }
+    ensures stamps { OnOk result ((k : ℕ × (ℕ × ℕ)) → stamp_at stamps.new k
+        ≡ update same_pair (stamp_at stamps.old) (link.now.assoc, (link.now.first, link.now.second)) (Some link.now.stamp) k) }
     ensures seconds { OnOk result (seconds.new.entries ≡ insert_entry end_cmp seconds.old.entries
         ((link.now.assoc, link.now.first), link.now.stamp) link.now.second) }
     ensures firsts { OnOk result (firsts.new.entries ≡ insert_entry end_cmp firsts.old.entries
         ((link.now.assoc, link.now.second), link.now.stamp) link.now.first) }
     ensures small { OnOk result (link.now.stamp < 2 ^ 32) }
-    ensures no_stamps { OnErr result (stamps.new.entries ≡ stamps.old.entries) }
+    ensures no_stamps { OnErr result ((k : ℕ × (ℕ × ℕ)) → stamp_at stamps.new k ≡ stamp_at stamps.old k) }
     ensures no_seconds { OnErr result (seconds.new.entries ≡ seconds.old.entries) }
     ensures no_firsts { OnErr result (firsts.new.entries ≡ firsts.old.entries) }
 {
-    put(stamps, pair_key(link), link.stamp)?;
+    put_stamp(stamps, pair_key(link), link.stamp)?;
     match put_ends(seconds, firsts, link) {
         Ok(()) => Ok(()),
         Err(refused) => {
-            take(stamps, pair_key(link));
+            take_stamp(stamps, pair_key(link));
             Err(refused)
         }
     }
@@ -162,27 +181,13 @@ fn pair_at(end: End, object: ObjNo, other: ObjNo) -> (ObjNo, ObjNo)
     }
 }
 
-/// The pairs of the links of an association, by stamps.
-fn pairs_of(
-    alloc: Global,
-    links: &BTreeMap<LinkKey, (ObjNo, ObjNo)>,
-    assoc: AssocNo,
-) -> Result<Vec<(ObjNo, ObjNo)>, AllocError>
-    ensures { IfOk result (λ v. v.items ≡ map (λ e. e.1) (entries_between link_cmp (Included (assoc, 0)) (Included (assoc, 2 ^ 32 - 1)) links.now.entries)) }
-{
-    links
-        .range((assoc, 0)..=(assoc, u32::MAX))
-        .map(|(_, pair)| *pair)
-        .collect(alloc)
-}
-
 impl LinkTable {
     pub(crate) fn new(alloc: Global) -> LinkTable
         ensures { result ≡ [] }
     {
         LinkTable {
-            links: BTreeMap::new(alloc),
-            stamps: BTreeMap::new(alloc),
+            links: PairMap::new(alloc),
+            stamps: HashMap::new(alloc),
             seconds: BTreeMap::new(alloc),
             firsts: BTreeMap::new(alloc),
         }
@@ -241,26 +246,23 @@ impl LinkTable {
     ) -> Result<Vec<(ObjNo, ObjNo)>, AllocError>
         ensures { IfOk result (λ v. v.items ≡ pairs_in self.now assoc) }
     {
-        pairs_of(alloc, &self.links, assoc)
+        self.links.values(alloc, assoc)
     }
 
     /// Puts a link in, whose key is free and whose pair is not linked. After `AllocError` the links
     /// are as they were.
-    pub(crate) fn insert(&mut self, link: &LinkChange) -> Result<(), AllocError>
+    pub(crate) fn insert(&mut self, alloc: Global, link: &LinkChange) -> Result<(), AllocError>
         requires free { lookup (is_at (link_cmp (link.now.assoc, link.now.stamp))) self.old ≡ None }
         requires fresh { stamp_in self.old link.now.assoc link.now.first link.now.second ≡ None }
         ensures ok { OnOk result (self.new ≡ insert_entry link_cmp self.old (link.now.assoc, link.now.stamp) (link.now.first, link.now.second)) }
         ensures err { OnErr result (self.new ≡ self.old) }
     {
-        put(
-            &mut self.links,
-            (link.assoc, link.stamp),
-            (link.first, link.second),
-        )?;
+        let pair = (link.first, link.second);
+        self.links.insert(alloc, link.assoc, link.stamp, pair)?;
         match put_indexes(&mut self.stamps, &mut self.seconds, &mut self.firsts, link) {
             Ok(()) => Ok(()),
             Err(refused) => {
-                take(&mut self.links, (link.assoc, link.stamp));
+                self.links.remove(link.assoc, link.stamp);
                 Err(refused)
             }
         }
@@ -271,8 +273,8 @@ impl LinkTable {
         requires { lookup (is_at (link_cmp (link.now.assoc, link.now.stamp))) self.old ≡ Some (link.now.first, link.now.second) }
         ensures { self.new ≡ remove_entry (is_at (link_cmp (link.now.assoc, link.now.stamp))) self.old }
     {
-        take(&mut self.links, (link.assoc, link.stamp));
-        take(&mut self.stamps, pair_key(link));
+        self.links.remove(link.assoc, link.stamp);
+        take_stamp(&mut self.stamps, pair_key(link));
         take(&mut self.seconds, first_key(link));
         take(&mut self.firsts, second_key(link));
     }

@@ -15,7 +15,7 @@ ghost use Rattle.object_store.specs.Indexes.{extent_in, has_pair, is_one, named_
 
 use crate::extents::{Extents, objects_of, put_extents, take_extents};
 use crate::names::{Numbers, put_name, take_name};
-use crate::numbered::NumberMap;
+use crate::number_map::NumberMap;
 use class_model::{AttrNo, ClassNo};
 use object_state::{Layout, Object, ObjectChange, object_of};
 use ocl_values::{ObjNo, Value};

@@ -3,7 +3,7 @@ ghost use Rattle.std.specs.Map.{keys_of};
 ghost use Rattle.std.specs.Option.{option_copied, option_map};
 ghost use Rattle.object_state.specs.Changes.{with_slot};
 ghost use Rattle.object_state.specs.declared.objects.Object.{Object};
-ghost use Rattle.object_store.specs.Cells.{cell_in, entries};
+ghost use Rattle.object_store.specs.Cells.{cell_in, entries, values_in};
 ghost use Rattle.object_store.specs.Pages.{empty_cells, page_cells};
 
 use class_model::AttrNo;
@@ -13,7 +13,7 @@ use std::alloc::{AllocError, Global};
 use std::marker::Model;
 
 /// How many cells a page has.
-pub(crate) const PAGE: usize = 256;
+pub(crate) const PAGE: usize = 64;
 
 /// Cells for values whose numbers have one quotient. Contracts see the list of them.
 #[derive(Drop)]
@@ -38,7 +38,7 @@ impl<V> Model for Page<V> {
 
 /// Cells without values.
 fn no_cells<V: Drop>(alloc: Global) -> Result<Vec<Option<V>>, AllocError>
-    ensures { IfOk result (λ v. v.items ≡ empty_cells 256) }
+    ensures { IfOk result (λ v. v.items ≡ empty_cells 64) }
 {
     let mut cells = Vec::with_capacity(alloc, PAGE)?;
     let mut left = PAGE;
@@ -51,7 +51,7 @@ fn no_cells<V: Drop>(alloc: Global) -> Result<Vec<Option<V>>, AllocError>
 
 impl<V: Drop> Page<V> {
     pub(crate) fn new(alloc: Global) -> Result<Page<V>, AllocError>
-        ensures { IfOk result (λ p. p ≡ empty_cells 256) }
+        ensures { IfOk result (λ p. p ≡ empty_cells 64) }
     {
         let cells = no_cells(alloc)?;
         Ok(Page { cells, count: 0 })
@@ -67,42 +67,42 @@ impl<V: Drop> Page<V> {
         true
     }
 
-    pub(crate) fn get(&self, i: usize) -> Option<&V>
-        requires { i < 256 }
-        ensures { option_copied result ≡ cell_in (slice_get self.now i) }
+    pub(crate) fn get(&self, cell: usize) -> Option<&V>
+        requires { cell < 64 }
+        ensures { option_copied result ≡ cell_in (slice_get self.now cell) }
     {
-        self.cells[i].as_ref()
+        self.cells[cell].as_ref()
     }
 
-    pub(crate) fn put(&mut self, i: usize, value: V)
-        requires within { i < 256 }
-        requires free { cell_in (slice_get self.old i) ≡ None }
-        ensures { self.new ≡ slice_set self.old i (Some value) }
+    pub(crate) fn put(&mut self, cell: usize, value: V)
+        requires within { cell < 64 }
+        requires free { cell_in (slice_get self.old cell) ≡ None }
+        ensures { self.new ≡ slice_set self.old cell (Some value) }
     {
-        self.cells[i] = Some(value);
+        self.cells[cell] = Some(value);
         self.count += 1;
     }
 
-    fn has(&self, i: usize) -> bool
-        requires { i < 256 }
-        ensures { result ≡ is_some (cell_in (slice_get self.now i)) }
+    fn has(&self, cell: usize) -> bool
+        requires { cell < 64 }
+        ensures { result ≡ is_some (cell_in (slice_get self.now cell)) }
     {
-        self.cells[i].is_some()
+        self.cells[cell].is_some()
     }
 
-    pub(crate) fn clear(&mut self, i: usize)
-        requires { i < 256 }
-        ensures { self.new ≡ slice_set self.old i None }
+    pub(crate) fn clear(&mut self, cell: usize)
+        requires { cell < 64 }
+        ensures { self.new ≡ slice_set self.old cell None }
     {
-        if self.has(i) {
-            self.cells[i] = None;
+        if self.has(cell) {
+            self.cells[cell] = None;
             self.count -= 1;
         }
     }
 
     /// Adds the numbers of the values, where the first cell has a number.
     pub(crate) fn add_numbers(&self, first: u32, found: &mut Vec<u32>) -> Result<(), AllocError>
-        requires { first + 256 ≤ 2 ^ 32 }
+        requires { first + 64 ≤ 2 ^ 32 }
         ensures { OnOk result (found.new.items ≡ found.old.items ++ keys_of (entries first self.now)) }
     {
         let mut rest = self.cells.as_slice();
@@ -112,6 +112,22 @@ impl<V: Drop> Page<V> {
                 found.push(number as u32)?;
             }
             number += 1;
+            rest = more;
+        }
+        Ok(())
+    }
+}
+
+impl<V: Copy> Page<V> {
+    /// Adds the values, in the order of their cells.
+    pub(crate) fn add_values(&self, found: &mut Vec<V>) -> Result<(), AllocError>
+        ensures { OnOk result (found.new.items ≡ found.old.items ++ values_in self.now) }
+    {
+        let mut rest = self.cells.as_slice();
+        'cells: while let [cell, more @ ..] = rest {
+            if let Some(value) = cell {
+                found.push(*value)?;
+            }
             rest = more;
         }
         Ok(())
@@ -139,13 +155,13 @@ impl Page<Object> {
         &mut self,
         alloc: Global,
         layout: &Layout,
-        i: usize,
+        cell: usize,
         attr: AttrNo,
         value: Value,
     )
-        requires { i < 256 }
-        ensures { (c : Option Object) → slice_get self.old i ≡ Some c → self.new ≡ slice_set self.old i (option_map (λ x. with_slot layout.now x attr value) c) }
+        requires { cell < 64 }
+        ensures { (c : Option Object) → slice_get self.old cell ≡ Some c → self.new ≡ slice_set self.old cell (option_map (λ x. with_slot layout.now x attr value) c) }
     {
-        set_slot_in(alloc, layout, &mut self.cells[i], attr, value);
+        set_slot_in(alloc, layout, &mut self.cells[cell], attr, value);
     }
 }

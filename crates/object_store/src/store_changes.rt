@@ -19,8 +19,9 @@ fn weight_after(weight: u64, change: &Change) -> u64
 }
 
 impl Store {
-    /// Carries a change out, from copies of what it brings.
-    fn carry_out(&mut self, change: &Change) -> Result<(), AllocError>
+    /// Carries a change out that fits, from copies of what it brings. After `AllocError` the state is
+    /// as it was.
+    pub fn carry_out(&mut self, change: &Change) -> Result<(), AllocError>
         requires { Fits self.old.layout self.old.state change.now }
         ensures ok { OnOk result (self.new ≡ record self.old { state = apply self.old.layout self.old.state change.now }) }
         ensures err { OnErr result (self.new ≡ self.old) }
@@ -51,7 +52,7 @@ impl Store {
                 Ok(())
             }
             Change::Link(new) => {
-                self.links.insert(new)?;
+                self.links.insert(self.alloc, new)?;
                 self.next_stamp = new.after;
                 self.weight = weight;
                 Ok(())
@@ -76,8 +77,7 @@ impl Store {
         }
     }
 
-    /// Carries a change out that fits, and gives the change that takes it back. After `AllocError`
-    /// the state is as it was.
+    /// The same, and gives the change that takes it back.
     pub fn apply(&mut self, change: Change) -> Result<Change, AllocError>
         requires { Fits self.old.layout self.old.state change }
         ensures back { IfOk result (λ back. back ≡ inverse change) }

@@ -63,7 +63,7 @@ fn take_one_back(
 {
     let back = change.inverse();
     frames.note(alloc, store, &back)?;
-    store.apply(back)?;
+    store.carry_out(&back)?;
     Ok(())
 }
 
@@ -157,9 +157,9 @@ impl Transaction {
         self.store.state_is_valid();
         self.changes.reserve(1)?;
         self.frames.note(self.alloc, &self.store, &change)?;
-        let back = self.store.apply(change)?;
+        self.store.carry_out(&change)?;
         self.left -= weight;
-        self.changes.push(back.inverse())?;
+        self.changes.push(change)?;
         Ok(())
     }
 

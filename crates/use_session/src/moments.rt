@@ -42,8 +42,8 @@ fn carry_one_out_again(
     ensures noted { OnOk result (AreNoted store.old.layout store.old.state (apply store.old.layout store.old.state change) frames.old frames.new) }
 {
     frames.note(alloc, store, &change)?;
-    let back = store.apply(change)?;
-    Ok(back.inverse())
+    store.carry_out(&change)?;
+    Ok(change)
 }
 
 /// Takes changes back, the last first, and gives them again.

@@ -12,7 +12,6 @@ ops-preserved c = λ t.
       c.ops.invariant t,
       position_of (λ op. op.now) (λ op. same_text op.name.text t) 0
           (take c.ops.i c.args.ops.now),
-      c.in_ok-copy_of.ensures,
       c.as_str.ensures,
     )
     (sym (position_of (λ op. op.now) (λ op. same_text op.name.text t) 0 (take (c.ops.i + 1) c.args.ops.now)

@@ -1,12 +1,12 @@
 use Rattle.std.proofs.Common.{◌∙◌, ap}
-use Rattle.object_store.specs.Indexes.{stamp_in}
+use Rattle.object_store.specs.Indexes.{stamp_at, stamp_in}
 use Rattle.object_store.proofs.Links.{stamp_found}
 use Rattle.object_store.proofs.link_table.LinkTable.stamp.Goals as goal
 
 pub returns : goal.returns
 returns c =
     c.copied.ensures ∙ c.get.ensures.value
-    ∙ stamp_found c.self.inside.links.entries c.self.inside.stamps.entries c.self.inside.seconds.entries c.self.inside.firsts.entries c.self.invariant
+    ∙ stamp_found c.self.inside.links (stamp_at c.self.inside.stamps) c.self.inside.seconds.entries c.self.inside.firsts.entries c.self.invariant
     c.args.assoc
     c.args.first c.args.second
     ∙ ap (λ l. stamp_in l c.args.assoc c.args.first c.args.second) c.self.view_is

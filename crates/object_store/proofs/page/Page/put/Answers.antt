@@ -9,8 +9,8 @@ overflow_add-self g c =
 
 pub invariant_of-self : goal.invariant_of-self
 invariant_of-self g c = record {
-  long = set_long c.args.i c.args.value c.self.inside.cells.items ∙ c.self.invariant.long;
+  long = set_long c.args.cell c.args.value c.self.inside.cells.items ∙ c.self.invariant.long;
   counted =
-      let n = more c.args.i c.args.value c.self.inside.cells.items (omega (arith, c.requires.within, c.self.invariant.long)) (rw (← c.self.view_is) at c.requires.free) in
+      let n = more c.args.cell c.args.value c.self.inside.cells.items (omega (arith, c.requires.within, c.self.invariant.long)) (rw (← c.self.view_is) at c.requires.free) in
       omega (arith, n, c.self.invariant.counted);
 }

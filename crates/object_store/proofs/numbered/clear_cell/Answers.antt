@@ -1,6 +1,0 @@
-use Rattle.std.proofs.Common.{sym}
-use Rattle.object_store.proofs.Pages.{empty_set}
-use Rattle.object_store.proofs.numbered.clear_cell.Goals as goal
-
-pub returns-in-None-clause-cells : goal.returns-in-None-clause-cells
-returns-in-None-clause-cells g c = rw c.in-None.is (sym (empty_set 256 c.args.i))
