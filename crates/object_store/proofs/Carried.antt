@@ -1,5 +1,5 @@
 -- A change that fits what a store holds: what it needs of the tables, and what it leaves.
-use Rattle.std.proofs.Common.{◌≡◌, ◌+◌, ◌≤◌, ℕ, Bool, true, false, ◌&&◌, List, Option, Some, None, refl, sym, ap, ◌∙◌, subst, true≢false, arith}
+use Rattle.std.proofs.Common.{◌≡◌, ◌+◌, ◌≤◌, ◌<◌, ◌^◌, length, ℕ, Bool, true, false, ◌&&◌, List, Option, Some, None, refl, sym, ap, ◌∙◌, subst, true≢false, arith}
 use Rattle.std.specs.BTreeMap.{is_at}
 use Rattle.std.specs.Map.{set_value}
 use Rattle.std.specs.Option.{is_some, option_map_or}
@@ -46,6 +46,9 @@ module _ (l : Layout) (s : State) (v : IsValid l s) where
 
   pub pair_is_free : (d : LinkChange) → Fits l s (Link d) → stamp_of s d.assoc d.first d.second ≡ None
   pair_is_free d f = not_stamped (stamp_of s d.assoc d.first d.second) (faultless l s (Link d) f.faultless).fresh
+
+  pub links_are_few : length s.links < 2 ^ 32
+  links_are_few = let light = v.light in omega (arith, light)
 
   pub link_is_there : (d : LinkChange) → Fits l s (Unlink d) → link s (d.assoc, d.stamp) ≡ Some (d.first, d.second)
   link_is_there d f =

@@ -1,8 +1,7 @@
 -- Objects, and an index of those of each class.
-use Rattle.std.proofs.Common.{◌≡◌, ◌≢◌, ℕ, ◌≤◌, ◌<◌, ◌^◌, ◌-◌, ◌&&◌, Bool, true, false, cond, List, [], ◌∷◌, map, Option, Some, None, refl, sym, ap, ◌∙◌}
-use Rattle.std.proofs.Common.{subst, true≢false, is_eq, Ordering, arith}
+use Rattle.std.proofs.Common.{◌≡◌, ◌≢◌, ℕ, ◌&&◌, Bool, true, false, cond, List, [], ◌∷◌, map, Option, Some, None, refl, sym, ap, ◌∙◌}
+use Rattle.std.proofs.Common.{subst, true≢false, is_eq, Ordering}
 use Rattle.std.specs.BTreeMap.{insert_entry, is_at}
-use Rattle.std.specs.BTreeMap.Range.{range_contains}
 use Rattle.std.specs.Cmp.{IsTotalOrder, nat_cmp_total}
 use Rattle.std.specs.List.{filter, list_any}
 use Rattle.std.specs.List.Sorted.{IsStrictlySortedBy}
@@ -10,17 +9,15 @@ use Rattle.std.specs.Map.{keys_of, lookup, remove_entry, set_value}
 use Rattle.std.specs.Option.{option_and_then, option_map_or}
 use Rattle.std.specs.Ordering.{nat_cmp}
 use Rattle.std.specs.Prelude.{nat_eq}
-use Rattle.std.specs.declared.ops.Bound.TheVariants.{Included}
 use Rattle.std.proofs.lemmas.Bool.{eqb-true}
 use Rattle.std.proofs.lemmas.Cmp.{tied_itself}
 use Rattle.std.proofs.lemmas.Map.Lookups.{CmpEqualImpliesEq, exact_unsigned}
 use Rattle.object_state.specs.State.{link_cmp}
 use Rattle.object_store.specs.Indexes.{has_pair, is_one}
-use Rattle.object_store.proofs.Grouped.{in_range, lookup_selected, selected, sorted_selected}
+use Rattle.object_store.proofs.Grouped.{lookup_selected, selected, sorted_selected}
 use Rattle.object_state.proofs.Keyed.{by_test, equal, found_remove, gone_remove, kept_remove, kept_set, lookup_insert, lookup_set_here, put_insert}
-use Rattle.object_state.proofs.Keyed.{some≢none}
 use Rattle.object_state.proofs.Back.{link_exact, link_total}
-use Rattle.object_store.proofs.Links.{at_assoc, same_nat, up_assoc}
+use Rattle.object_store.proofs.Links.{at_assoc, up_assoc}
 use Rattle.object_store.proofs.Listed.{bare, bare_filter, bare_keys, bare_lookup, same_entries, same_filter}
 
 either : (b : Bool) → (b ≡ true → ⊥) → b ≡ false
@@ -36,7 +33,7 @@ and_false false = refl
 
 -- what is found at another key than the one that goes
 module _ {K X : Type 0} {R : K → K → Ordering} (o : IsTotalOrder R) (exact : CmpEqualImpliesEq R) where
-  other_remove : (es : List (K × X)) (k q : K) → IsStrictlySortedBy R (keys_of es) → q ≢ k
+  pub other_remove : (es : List (K × X)) (k q : K) → IsStrictlySortedBy R (keys_of es) → q ≢ k
       → lookup (is_at (R q)) (remove_entry (is_at (R k)) es) ≡ lookup (is_at (R q)) es
   other_remove es k q up apart = by (lookup (is_at (R q)) es) (lookup (is_at (R q)) (remove_entry (is_at (R k)) es)) refl refl
     where
@@ -122,9 +119,9 @@ module _ {X : Type 0} (is_in : X → ℕ → Bool) where
       (λ z. ap (λ u. option_map_or (λ (x : X). is_in x c) u false) (kept_set nat_cmp_total exact_unsigned objects o0 x1 x0 o at
       (λ e. true≢false (sym (ap is_eq (tied_itself nat_cmp_total o0)) ∙ ap (λ p. is_at (nat_cmp o0) p) (sym e) ∙ z)))))
 
-  -- the objects of a class, from a range of pairs
+  -- the objects of a class, from the pairs that have it
   module _ (objects : List (ℕ × X)) (pairs : List (ℕ × ℕ)) (tied : Classed objects pairs) (up : IsStrictlySortedBy nat_cmp (keys_of objects))
-      (pairs_up : IsStrictlySortedBy link_cmp pairs) (small : (o : ℕ) (x : X) → lookup (is_at (nat_cmp o)) objects ≡ Some x → o < 2 ^ 32) (c : ℕ) where
+      (pairs_up : IsStrictlySortedBy link_cmp pairs) (c : ℕ) where
     bare_up : IsStrictlySortedBy link_cmp (keys_of (bare pairs))
     bare_up = subst (λ (ks : List (ℕ × ℕ)). IsStrictlySortedBy link_cmp ks) (sym (bare_keys pairs)) pairs_up
 
@@ -158,27 +155,13 @@ module _ {X : Type 0} (is_in : X → ℕ → Bool) where
         ∙ found_same n (lookup (is_at (nat_cmp n)) objects) refl
         ∙ sym (lookup_selected {W = ℕ} nat_cmp_total exact_unsigned (λ k. k) (λ n. n) (λ k. true) (λ x. is_in x c) (λ x. 0) (λ n k. refl) objects n up))
 
-    live : (b : Bool) (v : ℕ) → cond b (Some 0) None ≡ Some v → b ≡ true
-    live true v e = refl
-    live false v e = absurd (some≢none v (sym e))
-
-    below : (k : ℕ × ℕ) (v : ℕ) → lookup (is_at (link_cmp k)) (bare pairs) ≡ Some v → k.1 ≤ 2 ^ 32 - 1
-    below k v e = by (lookup (is_at (nat_cmp k.1)) objects) refl
-        (sym (tied k.0 k.1) ∙ live (list_any (is_at (link_cmp k)) pairs) v (sym (bare_lookup (is_at (link_cmp k)) pairs) ∙ e))
-      where
-        by : (u : Option X) → lookup (is_at (nat_cmp k.1)) objects ≡ u → option_map_or (λ x. is_in x k.0) (lookup (is_at (nat_cmp k.1)) objects) false ≡ true
-            → k.1 ≤ 2 ^ 32 - 1
-        by None f h = absurd (true≢false (sym h ∙ ap (λ w. option_map_or (λ (x : X). is_in x k.0) w false) f))
-        by (Some x) f h = let s = small k.1 x f in omega arith
-
     and_true : (b : Bool) → b ≡ (b && true)
     and_true true = refl
     and_true false = refl
 
-    ranged : bare (filter (range_contains link_cmp (Included (c, 0)) (Included (c, 2 ^ 32 - 1))) pairs) ≡ filter (λ e. nat_eq e.0.0 c && true) (bare pairs)
-    ranged = sym (bare_filter (range_contains link_cmp (Included (c, 0)) (Included (c, 2 ^ 32 - 1))) pairs)
-        ∙ same_filter link_total link_exact _ (λ e. nat_eq e.0.0 c && true) (bare pairs) bare_up (λ k v e.
-        in_range (nat_cmp c k.0) k.1 (2 ^ 32 - 1) (below k v e) ∙ same_nat c k.0 ∙ and_true (nat_eq k.0 c))
+    of_class : bare (filter (λ k. nat_eq k.0 c) pairs) ≡ filter (λ e. nat_eq e.0.0 c && true) (bare pairs)
+    of_class = sym (bare_filter (λ k. nat_eq k.0 c) pairs)
+        ∙ same_filter link_total link_exact (λ e. nat_eq e.0.0 c) (λ e. nat_eq e.0.0 c && true) (bare pairs) bare_up (λ k v e. and_true (nat_eq k.0 c))
 
     spread : {C : Type 0} (h : ℕ → C) (ks : List (ℕ × ℕ)) → map (λ (k : ℕ × ℕ). h k.1) ks ≡ map (λ (e : ℕ × ℕ). h e.0) (map (λ e. (e.0.1, 0)) (bare ks))
     spread h [] = refl
@@ -188,11 +171,11 @@ module _ {X : Type 0} (is_in : X → ℕ → Bool) where
     gather h [] = refl
     gather h (e ∷ es) = ap (λ l. h e.0 ∷ l) (gather h es)
 
-    pub class_in_range : {C : Type 0} (h : ℕ → C)
-        → map (λ (k : ℕ × ℕ). h k.1) (filter (range_contains link_cmp (Included (c, 0)) (Included (c, 2 ^ 32 - 1))) pairs)
+    pub class_in_row : {C : Type 0} (h : ℕ → C)
+        → map (λ (k : ℕ × ℕ). h k.1) (filter (λ k. nat_eq k.0 c) pairs)
         ≡ map h (map (λ (e : ℕ × X). e.0) (filter (λ e. is_in e.1 c) objects))
-    class_in_range h =
-        spread h (filter (range_contains link_cmp (Included (c, 0)) (Included (c, 2 ^ 32 - 1))) pairs)
-        ∙ ap (λ (l : List ((ℕ × ℕ) × ℕ)). map (λ (e : ℕ × ℕ). h e.0) (map (λ e. (e.0.1, 0)) l)) ranged
+    class_in_row h =
+        spread h (filter (λ k. nat_eq k.0 c) pairs)
+        ∙ ap (λ (l : List ((ℕ × ℕ) × ℕ)). map (λ (e : ℕ × ℕ). h e.0) (map (λ e. (e.0.1, 0)) l)) of_class
         ∙ ap (λ (l : List (ℕ × ℕ)). map (λ (e : ℕ × ℕ). h e.0) l) same_objects
         ∙ gather h (filter (λ e. is_in e.1 c) objects)

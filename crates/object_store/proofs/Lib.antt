@@ -5,6 +5,7 @@ pub mod Stamped
 pub mod Links
 pub mod Named
 pub mod Classed
+mod Marked
 pub mod TextKeys
 pub mod Changed
 pub mod Walked

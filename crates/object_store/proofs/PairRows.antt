@@ -1,5 +1,5 @@
 -- What is found in rows of entries, with one more and one less.
-use Rattle.std.proofs.Common.{◌≡◌, ℕ, zero, suc, ◌+◌, ◌<◌, ◌≤◌, List, [], ◌∷◌, ◌++◌, map, length, slice_get, slice_set, Option, Some, None, unwrap_or, true, false, Bool, cond, Ordering, Less, Equal, Greater, is_eq, nat_cmp, nat_eq, refl, sym, ap, ◌∙◌, arith, true≢false}
+use Rattle.std.proofs.Common.{◌≡◌, ℕ, zero, suc, ◌+◌, ◌<◌, ◌≤◌, List, [], ◌∷◌, ◌++◌, map, length, slice_get, slice_set, Some, None, unwrap_or, true, false, cond, Ordering, Less, Equal, Greater, is_eq, nat_cmp, nat_eq, refl, sym, ap, ◌∙◌, arith, true≢false}
 use Rattle.std.specs.BTreeMap.{insert_entry, is_at}
 use Rattle.std.specs.Cmp.{nat_cmp_is}
 use Rattle.std.specs.List.{filter}
@@ -9,6 +9,7 @@ use Rattle.std.proofs.lemmas.Bool.{eq-eqb, eqb-true}
 use Rattle.object_state.specs.State.{link_cmp}
 use Rattle.object_state.proofs.Keyed.{by_test, some≢none}
 use Rattle.object_store.specs.Pairs.{pairs, with_first}
+use Rattle.object_store.proofs.Cells.{past}
 
 less : (n k : ℕ) → n < k → nat_cmp n k ≡ Less
 less n k h = sym (nat_cmp_is n k Less h)
@@ -29,12 +30,13 @@ module _ {K X : Type 0} (R : K → K → Ordering) (k : K) where
   -- how long a list of entries is with one more, and with one less
   pub longer : (es : List (K × X)) (v : X) → lookup (is_at (R k)) es ≡ None → length (insert_entry R es k v) ≡ length es + 1
   longer [] v h = refl
-  longer (e ∷ es) v h = by (R k e.0) refl
+  longer (e ∷ es) v h = by (R k e.0) refl (longer es v)
     where
-      by : (r : Ordering) → R k e.0 ≡ r → length (insert_entry R (e ∷ es) k v) ≡ suc (length es) + 1
-      by Less x = rw x (omega arith)
-      by Equal x = absurd (some≢none e.1 (sym (rw x refl) ∙ h))
-      by Greater x = rw x (let m = longer es v (sym (rw x refl) ∙ h) in omega (arith, m))
+      by : (r : Ordering) → R k e.0 ≡ r → (lookup (is_at (R k)) es ≡ None → length (insert_entry R es k v) ≡ length es + 1)
+          → length (insert_entry R (e ∷ es) k v) ≡ suc (length es) + 1
+      by Less x rest = rw x (omega arith)
+      by Equal x rest = absurd (some≢none e.1 (sym (rw x refl) ∙ h))
+      by Greater x rest = rw x (let m = rest (sym (rw x refl) ∙ h) in omega (arith, m))
 
   pub shorter : (es : List (K × X)) (x : X) → lookup (is_at (R k)) es ≡ Some x → length es ≡ length (remove_entry (is_at (R k)) es) + 1
   shorter [] x h = absurd (some≢none x (sym h))
@@ -76,6 +78,13 @@ module _ {X : Type 0} where
       → lookup (is_at (link_cmp (a, b))) (pairs 0 rows) ≡ lookup (is_at (nat_cmp b)) (unwrap_or (slice_get rows a) [])
   found_pair a b rows = found_from 0 a a b rows (omega arith)
 
+  pub found_in : (a b : ℕ) (rows : List (List (ℕ × X))) (row : List (ℕ × X)) → slice_get rows a ≡ Some row
+      → lookup (is_at (link_cmp (a, b))) (pairs 0 rows) ≡ lookup (is_at (nat_cmp b)) row
+  found_in a b rows row h = found_pair a b rows ∙ ap (λ o. lookup (is_at (nat_cmp b)) (unwrap_or o [])) h
+
+  pub found_past : (a b : ℕ) (rows : List (List (ℕ × X))) → length rows ≤ a → lookup (is_at (link_cmp (a, b))) (pairs 0 rows) ≡ None
+  found_past a b rows h = found_pair a b rows ∙ ap (λ o. lookup (is_at (nat_cmp b)) (unwrap_or o [])) (past a rows h)
+
   -- one entry more
   put_before : (n a b : ℕ) (v : X) (rows : List (List (ℕ × X))) → a < n → insert_entry link_cmp (pairs n rows) (a, b) v ≡ ((a, b), v) ∷ pairs n rows
   put_before n a b v [] h = refl
@@ -85,13 +94,14 @@ module _ {X : Type 0} where
   put_row : (a b : ℕ) (v : X) (es : List (ℕ × X)) (rest : List ((ℕ × ℕ) × X)) → insert_entry link_cmp rest (a, b) v ≡ ((a, b), v) ∷ rest
       → insert_entry link_cmp (with_first a es ++ rest) (a, b) v ≡ with_first a (insert_entry nat_cmp es b v) ++ rest
   put_row a b v [] rest h = h
-  put_row a b v (e ∷ es) rest h = by (nat_cmp b e.0) refl
+  put_row a b v (e ∷ es) rest h = by (nat_cmp b e.0) refl (put_row a b v es rest h)
     where
       by : (r : Ordering) → nat_cmp b e.0 ≡ r
+          → insert_entry link_cmp (with_first a es ++ rest) (a, b) v ≡ with_first a (insert_entry nat_cmp es b v) ++ rest
           → insert_entry link_cmp (with_first a (e ∷ es) ++ rest) (a, b) v ≡ with_first a (insert_entry nat_cmp (e ∷ es) b v) ++ rest
-      by Less x = rw (equal a a refl, x) refl
-      by Equal x = rw (equal a a refl, x) refl
-      by Greater x = rw (equal a a refl, x) (ap (λ l. ((a, e.0), e.1) ∷ l) (put_row a b v es rest h))
+      by Less x more = rw (equal a a refl, x) refl
+      by Equal x more = rw (equal a a refl, x) refl
+      by Greater x more = rw (equal a a refl, x) (ap (λ l. ((a, e.0), e.1) ∷ l) more)
 
   put_past : (n a b : ℕ) (v : X) (es : List (ℕ × X)) (rest : List ((ℕ × ℕ) × X)) → n < a
       → insert_entry link_cmp (with_first n es ++ rest) (a, b) v ≡ with_first n es ++ insert_entry link_cmp rest (a, b) v
@@ -112,6 +122,19 @@ module _ {X : Type 0} where
       → insert_entry link_cmp (pairs 0 rows) (a, b) v ≡ pairs 0 (slice_set rows a (insert_entry nat_cmp (unwrap_or (slice_get rows a) []) b v))
   put_pair a b v rows h = put_from 0 a a b v rows (omega arith) h
 
+  pub put_in : (a b : ℕ) (v : X) (rows : List (List (ℕ × X))) (row : List (ℕ × X)) → a < length rows → slice_get rows a ≡ Some row
+      → pairs 0 (slice_set rows a (insert_entry nat_cmp row b v)) ≡ insert_entry link_cmp (pairs 0 rows) (a, b) v
+  put_in a b v rows row h e =
+      sym (put_pair a b v rows h ∙ ap (λ o. pairs 0 (slice_set rows a (insert_entry nat_cmp (unwrap_or o []) b v))) e)
+
+  pub same_row : (a : ℕ) (rows : List (List (ℕ × X))) (row : List (ℕ × X)) → slice_get rows a ≡ Some row → slice_set rows a row ≡ rows
+  same_row a [] row e = refl
+  same_row zero (r ∷ rows) row e = ap (λ x. x ∷ rows) (inside row r (sym e))
+    where
+      inside : (x y : List (ℕ × X)) → Some x ≡ Some y → x ≡ y
+      inside x y e = cc
+  same_row (suc a) (r ∷ rows) row e = ap (λ l. r ∷ l) (same_row a rows row e)
+
   -- one entry less
   none_row : (n a b : ℕ) (es : List (ℕ × X)) (rest : List ((ℕ × ℕ) × X)) → a < n → remove_entry (is_at (link_cmp (a, b))) rest ≡ rest
       → remove_entry (is_at (link_cmp (a, b))) (with_first n es ++ rest) ≡ with_first n es ++ rest
@@ -125,13 +148,15 @@ module _ {X : Type 0} where
   take_row : (a b : ℕ) (es : List (ℕ × X)) (rest : List ((ℕ × ℕ) × X)) → remove_entry (is_at (link_cmp (a, b))) rest ≡ rest
       → remove_entry (is_at (link_cmp (a, b))) (with_first a es ++ rest) ≡ with_first a (remove_entry (is_at (nat_cmp b)) es) ++ rest
   take_row a b [] rest h = h
-  take_row a b (e ∷ es) rest h = by (nat_cmp b e.0) refl
+  take_row a b (e ∷ es) rest h = by (nat_cmp b e.0) refl (take_row a b es rest h)
     where
-      by : (r : Ordering) → nat_cmp b e.0 ≡ r → remove_entry (is_at (link_cmp (a, b))) (with_first a (e ∷ es) ++ rest)
+      by : (r : Ordering) → nat_cmp b e.0 ≡ r
+          → remove_entry (is_at (link_cmp (a, b))) (with_first a es ++ rest) ≡ with_first a (remove_entry (is_at (nat_cmp b)) es) ++ rest
+          → remove_entry (is_at (link_cmp (a, b))) (with_first a (e ∷ es) ++ rest)
           ≡ with_first a (remove_entry (is_at (nat_cmp b)) (e ∷ es)) ++ rest
-      by Less x = rw (equal a a refl, x) (ap (λ l. ((a, e.0), e.1) ∷ l) (take_row a b es rest h))
-      by Equal x = rw (equal a a refl, x) refl
-      by Greater x = rw (equal a a refl, x) (ap (λ l. ((a, e.0), e.1) ∷ l) (take_row a b es rest h))
+      by Less x more = rw (equal a a refl, x) (ap (λ l. ((a, e.0), e.1) ∷ l) more)
+      by Equal x more = rw (equal a a refl, x) refl
+      by Greater x more = rw (equal a a refl, x) (ap (λ l. ((a, e.0), e.1) ∷ l) more)
 
   take_past : (n a b : ℕ) (es : List (ℕ × X)) (rest : List ((ℕ × ℕ) × X)) → n < a
       → remove_entry (is_at (link_cmp (a, b))) (with_first n es ++ rest) ≡ with_first n es ++ remove_entry (is_at (link_cmp (a, b))) rest
@@ -151,6 +176,11 @@ module _ {X : Type 0} where
   pub take_pair : (a b : ℕ) (rows : List (List (ℕ × X))) → a < length rows → remove_entry (is_at (link_cmp (a, b))) (pairs 0 rows)
       ≡ pairs 0 (slice_set rows a (remove_entry (is_at (nat_cmp b)) (unwrap_or (slice_get rows a) [])))
   take_pair a b rows h = take_from 0 a a b rows (omega arith) h
+
+  pub take_in : (a b : ℕ) (rows : List (List (ℕ × X))) (row : List (ℕ × X)) → a < length rows → slice_get rows a ≡ Some row
+      → pairs 0 (slice_set rows a (remove_entry (is_at (nat_cmp b)) row)) ≡ remove_entry (is_at (link_cmp (a, b))) (pairs 0 rows)
+  take_in a b rows row h e =
+      sym (take_pair a b rows h ∙ ap (λ o. pairs 0 (slice_set rows a (remove_entry (is_at (nat_cmp b)) (unwrap_or o [])))) e)
 
   pub take_none : (a b : ℕ) (es : List ((ℕ × ℕ) × X)) → is_some (lookup (is_at (link_cmp (a, b))) es) ≡ false → remove_entry (is_at (link_cmp (a, b))) es ≡ es
   take_none a b [] h = refl
@@ -197,6 +227,32 @@ module _ {X : Type 0} where
   pub row_values : (a : ℕ) (rows : List (List (ℕ × X)))
       → map (λ (e : (ℕ × ℕ) × X). e.1) (filter (λ (e : (ℕ × ℕ) × X). nat_eq e.0.0 a) (pairs 0 rows)) ≡ map (λ (e : ℕ × X). e.1) (unwrap_or (slice_get rows a) [])
   row_values a rows = ap (map (λ (e : (ℕ × ℕ) × X). e.1)) (row_from 0 a a rows (omega arith)) ∙ values_of a (unwrap_or (slice_get rows a) [])
+
+  pub no_seconds : (a : ℕ) (rows : List (List (ℕ × X))) → length rows ≤ a
+      → map (λ (e : (ℕ × ℕ) × X). e.0.1) (filter (λ (e : (ℕ × ℕ) × X). nat_eq e.0.0 a) (pairs 0 rows)) ≡ []
+  no_seconds a rows h = row_seconds a rows ∙ ap (λ o. keys_of (unwrap_or o [])) (past a rows h)
+
+  pub seconds_in : (a : ℕ) (rows : List (List (ℕ × X))) (row : List (ℕ × X)) → slice_get rows a ≡ Some row
+      → map (λ (e : (ℕ × ℕ) × X). e.0.1) (filter (λ (e : (ℕ × ℕ) × X). nat_eq e.0.0 a) (pairs 0 rows)) ≡ keys_of row
+  seconds_in a rows row h = row_seconds a rows ∙ ap (λ o. keys_of (unwrap_or o [])) h
+
+  pub no_values : (a : ℕ) (rows : List (List (ℕ × X))) → length rows ≤ a
+      → map (λ (e : (ℕ × ℕ) × X). e.1) (filter (λ (e : (ℕ × ℕ) × X). nat_eq e.0.0 a) (pairs 0 rows)) ≡ []
+  no_values a rows h = row_values a rows ∙ ap (λ o. map (λ (e : ℕ × X). e.1) (unwrap_or o [])) (past a rows h)
+
+  pub values_in : (a : ℕ) (rows : List (List (ℕ × X))) (row : List (ℕ × X)) → slice_get rows a ≡ Some row
+      → map (λ (e : (ℕ × ℕ) × X). e.1) (filter (λ (e : (ℕ × ℕ) × X). nat_eq e.0.0 a) (pairs 0 rows)) ≡ map (λ (e : ℕ × X). e.1) row
+  values_in a rows row h = row_values a rows ∙ ap (λ o. map (λ (e : ℕ × X). e.1) (unwrap_or o [])) h
+
+  -- where there is an entry, there is a row
+  pub row_there : (a b : ℕ) (rows : List (List (ℕ × X))) → is_some (lookup (is_at (link_cmp (a, b))) (pairs 0 rows)) ≡ true → a < length rows
+  row_there a b rows h = by_below a (length rows) (λ y. y)
+      (λ n. absurd (true≢false (sym h ∙ ap is_some (found_past a b rows n))))
+    where
+      by_below : {P : Type 0} (n m : ℕ) → (n < m → P) → (m ≤ n → P) → P
+      by_below n zero f g = g (omega arith)
+      by_below zero (suc m) f g = f (omega arith)
+      by_below (suc n) (suc m) f g = by_below n m (λ y. f (omega (arith, y))) (λ y. g (omega (arith, y)))
 
   -- an empty row adds no entry
   more_from : (n : ℕ) (rows : List (List (ℕ × X))) → pairs n (rows ++ [] ∷ []) ≡ pairs n rows

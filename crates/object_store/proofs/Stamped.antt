@@ -1,5 +1,5 @@
 -- Links, and the stamps of their pairs.
-use Rattle.std.proofs.Common.{◌≡◌, ◌≢◌, ◌↔◌, ◌⊎◌, inl, inr, ℕ, Bool, true, false, cond, List, [], Option, Some, None, refl, sym, ap, ◌∙◌, subst, true≢false}
+use Rattle.std.proofs.Common.{◌≡◌, ◌↔◌, ◌⊎◌, inl, inr, ℕ, true, false, cond, List, [], Option, Some, None, refl, sym, ap, ◌∙◌, subst, true≢false}
 use Rattle.std.specs.BTreeMap.{insert_entry, is_at}
 use Rattle.std.specs.HashMap.{HashMap}
 use Rattle.std.specs.List.Sorted.{IsStrictlySortedBy}
@@ -8,7 +8,7 @@ use Rattle.std.specs.Prelude.{nat_eq}
 use Rattle.std.proofs.lemmas.Bool.{eq-eqb, eqb-true}
 use Rattle.object_state.specs.State.{link_cmp}
 use Rattle.object_state.proofs.Back.{link_exact, link_total}
-use Rattle.object_state.proofs.Keyed.{both, both_true, by_test, found_insert, found_remove, kept_insert, kept_remove, put_insert, some≢none}
+use Rattle.object_state.proofs.Keyed.{both, by_test, found_insert, found_remove, kept_insert, kept_remove, put_insert, some≢none}
 use Rattle.object_store.specs.Indexes.{by_pair, same_pair, stamp_at}
 
 equal_pairs : (p q : ℕ × (ℕ × ℕ)) → same_pair p q ≡ true → p ≡ q

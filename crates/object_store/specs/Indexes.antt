@@ -1,5 +1,5 @@
 -- What indexes must agree with, by look-ups.
-use Rattle.std.specs.Prelude.{◌≡◌, ◌↔◌, ◌<◌, ◌^◌, ℕ, Bool, false, ◌&&◌, nat_eq, List, Option, Some, map, filter}
+use Rattle.std.specs.Prelude.{◌≡◌, ◌↔◌, ◌<◌, ◌^◌, ℕ, Bool, false, ◌&&◌, if◌then◌else◌, nat_eq, List, Option, Some, map, filter}
 use Rattle.std.specs.declared.cmp.Ordering.{Ordering}
 use Rattle.std.specs.BTreeMap.{is_at}
 use Rattle.std.specs.HashMap.{HashMap, get}
@@ -83,6 +83,10 @@ has_class l x c = option_map_or (λ x. is_a l x.class c) x false
 -- the pairs of a class and an object
 abbrev pub has_pair : List (ℕ × ℕ) → ℕ → ℕ → Bool
 has_pair pairs c o = list_any (is_at (link_cmp (c, o))) pairs
+
+-- a pair is there now, or it is not, and the others are as they were
+abbrev pub Marks : Bool → ℕ × ℕ → List (ℕ × ℕ) → List (ℕ × ℕ) → Type 0
+Marks mark k old new = (q : ℕ × ℕ) → list_any (is_at (link_cmp q)) new ≡ (if is_at (link_cmp k) q then mark else list_any (is_at (link_cmp q)) old)
 
 -- whether a pair is of an object and one of some classes
 abbrev pub is_one : List ℕ → ℕ → ℕ → ℕ → Bool

@@ -1,5 +1,5 @@
 -- Cells in pages of 64, where a page without values may be left out.
-use Rattle.std.specs.Prelude.{◌≡◌, ◌≤◌, ⊤, length, ℕ, zero, suc, List, [], ◌∷◌, ◌++◌, Option, Some, None}
+use Rattle.std.specs.Prelude.{◌≡◌, ◌≤◌, ◌^◌, ⊤, length, ℕ, zero, suc, List, [], ◌∷◌, ◌++◌, Option, Some, None}
 use Rattle.object_store.specs.Cells.{entries}
 
 abbrev pub empty_cells : {X : Type 0} → ℕ → List (Option X)

@@ -1,5 +1,5 @@
 -- Entries by two numbers, in rows of those that have the first number.
-use Rattle.std.specs.Prelude.{◌≡◌, ℕ, ◌+◌, List, [], ◌∷◌, ◌++◌, length, map}
+use Rattle.std.specs.Prelude.{ℕ, ◌+◌, List, [], ◌∷◌, ◌++◌, map}
 
 -- the entries of a row
 abbrev pub with_first : {X : Type 0} → ℕ → List (ℕ × X) → List ((ℕ × ℕ) × X)
@@ -9,7 +9,3 @@ with_first a es = map (λ e. ((a, e.0), e.1)) es
 abbrev pub pairs : {X : Type 0} → ℕ → List (List (ℕ × X)) → List ((ℕ × ℕ) × X)
 pairs a [] = []
 pairs a (row ∷ rows) = with_first a row ++ pairs (a + 1) rows
-
--- how many values there are
-abbrev pub AreCounted : {X : Type 0} → List (List (ℕ × X)) → ℕ → Type 0
-AreCounted rows count = count ≡ length (pairs 0 rows)

@@ -23,6 +23,8 @@ use use_lists::Items;
 #[derive(Drop)]
 pub(crate) struct LinkTable {
     links: PairMap<(ObjNo, ObjNo)>,
+    /// How many links there are.
+    count: usize,
     /// The stamp of each linked pair.
     stamps: HashMap<PairKey, u32>,
     /// The second object of each link, by the first one.
@@ -32,14 +34,14 @@ pub(crate) struct LinkTable {
 }
 
 impl Model for LinkTable {
-    ghost use Rattle.std.specs.Prelude.{List, ℕ};
+    ghost use Rattle.std.specs.Prelude.{◌≡◌, List, ℕ, length};
     ghost use Rattle.object_store.specs.Indexes.{LinksAreTied, stamp_at};
 
     ghost Value = { List ((ℕ × ℕ) × (ℕ × ℕ)) };
 
     ghost view = { λ t. t.links };
 
-    ghost invariant = { λ t. LinksAreTied t.links (stamp_at t.stamps) t.seconds.entries t.firsts.entries };
+    ghost invariant = { λ t. LinksAreTied t.links (stamp_at t.stamps) t.seconds.entries t.firsts.entries × (t.count ≡ length t.links) };
 }
 
 /// A link by its pair.
@@ -187,6 +189,7 @@ impl LinkTable {
     {
         LinkTable {
             links: PairMap::new(alloc),
+            count: 0,
             stamps: HashMap::new(alloc),
             seconds: BTreeMap::new(alloc),
             firsts: BTreeMap::new(alloc),
@@ -196,7 +199,7 @@ impl LinkTable {
     pub(crate) fn len(&self) -> usize
         ensures { result ≡ length self.now }
     {
-        self.links.len()
+        self.count
     }
 
     /// The stamp of a pair that an association links.
@@ -253,6 +256,7 @@ impl LinkTable {
     /// are as they were.
     pub(crate) fn insert(&mut self, alloc: Global, link: &LinkChange) -> Result<(), AllocError>
         requires free { lookup (is_at (link_cmp (link.now.assoc, link.now.stamp))) self.old ≡ None }
+        requires few { length self.old < 2 ^ 32 }
         requires fresh { stamp_in self.old link.now.assoc link.now.first link.now.second ≡ None }
         ensures ok { OnOk result (self.new ≡ insert_entry link_cmp self.old (link.now.assoc, link.now.stamp) (link.now.first, link.now.second)) }
         ensures err { OnErr result (self.new ≡ self.old) }
@@ -260,7 +264,10 @@ impl LinkTable {
         let pair = (link.first, link.second);
         self.links.insert(alloc, link.assoc, link.stamp, pair)?;
         match put_indexes(&mut self.stamps, &mut self.seconds, &mut self.firsts, link) {
-            Ok(()) => Ok(()),
+            Ok(()) => {
+                self.count += 1;
+                Ok(())
+            }
             Err(refused) => {
                 self.links.remove(link.assoc, link.stamp);
                 Err(refused)
@@ -274,6 +281,7 @@ impl LinkTable {
         ensures { self.new ≡ remove_entry (is_at (link_cmp (link.now.assoc, link.now.stamp))) self.old }
     {
         self.links.remove(link.assoc, link.stamp);
+        self.count -= 1;
         take_stamp(&mut self.stamps, pair_key(link));
         take(&mut self.seconds, first_key(link));
         take(&mut self.firsts, second_key(link));

@@ -16,11 +16,12 @@ ghost use Rattle.object_store.specs.Indexes.{extent_in, has_pair, is_one, named_
 use crate::extents::{Extents, objects_of, put_extents, take_extents};
 use crate::names::{Numbers, put_name, take_name};
 use crate::number_map::NumberMap;
+use crate::pair_map::PairMap;
 use class_model::{AttrNo, ClassNo};
 use object_state::{Layout, Object, ObjectChange, object_of};
 use ocl_values::{ObjNo, Value};
 use std::alloc::{AllocError, Global};
-use std::collections::{BTreeSet, HashMap};
+use std::collections::HashMap;
 use std::marker::Model;
 
 /// Objects by number. Contracts see the list of them in that order, and the layout.
@@ -36,6 +37,7 @@ pub(crate) struct ObjectTable {
 impl Model for ObjectTable {
     ghost use Rattle.std.specs.Coded.{codes};
     ghost use Rattle.std.specs.HashMap.{get_by_text};
+    ghost use Rattle.std.specs.Map.{keys_of};
     ghost use Rattle.ocl_values.specs.contracts.value.Value as values;
     ghost use Rattle.object_store.specs.Indexes.{Objects, ObjectsAreTied};
 
@@ -45,7 +47,7 @@ impl Model for ObjectTable {
 
     ghost view = { λ t. record { layout = t.layout; objects = t.objects } };
 
-    ghost invariant = { λ t. ObjectsAreTied t.layout t.objects (get_by_text t.names) t.extents.keys };
+    ghost invariant = { λ t. ObjectsAreTied t.layout t.objects (get_by_text t.names) (keys_of t.extents) };
 }
 
 /// Puts an object into the indexes, or into none.
@@ -56,22 +58,22 @@ fn put_indexes(
     extents: &mut Extents,
     new: &ObjectChange,
 ) -> Result<(), AllocError>
-    requires ordered { IsStrictlySortedBy link_cmp extents.old.keys }
+    requires ordered { IsStrictlySortedBy link_cmp (keys_of extents.old) }
     requires fresh { get_by_text names.old new.now.name ≡ None }
-    requires free { (c : ℕ) → has_pair extents.old.keys c new.now.object ≡ false }
-    ensures ordered { IsStrictlySortedBy link_cmp extents.new.keys }
+    requires free { (c : ℕ) → has_pair (keys_of extents.old) c new.now.object ≡ false }
+    ensures ordered { IsStrictlySortedBy link_cmp (keys_of extents.new) }
     ensures others { (c o : ℕ) → is_one (ancestors layout.now new.now.class) new.now.object c o ≡ false
-        → has_pair extents.new.keys c o ≡ has_pair extents.old.keys c o }
+        → has_pair (keys_of extents.new) c o ≡ has_pair (keys_of extents.old) c o }
     ensures small { OnOk result (new.now.object < 2 ^ 32) }
     ensures named { OnOk result ((n : List ℕ) → get_by_text names.new n ≡ update bytes_eq (get_by_text names.old) new.now.name (Some new.now.object) n) }
     ensures there { OnOk result ((c : ℕ) → list_any (nat_eq c) (ancestors layout.now new.now.class) ≡ true
-        → has_pair extents.new.keys c new.now.object ≡ true) }
+        → has_pair (keys_of extents.new) c new.now.object ≡ true) }
     ensures no_name { OnErr result ((n : List ℕ) → get_by_text names.new n ≡ get_by_text names.old n) }
     ensures gone { OnErr result ((c : ℕ) → list_any (nat_eq c) (ancestors layout.now new.now.class) ≡ true
-        → has_pair extents.new.keys c new.now.object ≡ false) }
+        → has_pair (keys_of extents.new) c new.now.object ≡ false) }
 {
     put_name(alloc, names, new.name.as_str(), new.object)?;
-    match put_extents(extents, layout.ancestors(new.class), new.object) {
+    match put_extents(alloc, extents, layout.ancestors(new.class), new.object) {
         Ok(()) => Ok(()),
         Err(refused) => {
             take_name(names, new.name.as_str());
@@ -89,7 +91,7 @@ impl ObjectTable {
             layout,
             objects: NumberMap::new(alloc),
             names: HashMap::new(alloc),
-            extents: BTreeSet::new(alloc),
+            extents: PairMap::new(alloc),
         }
     }
 

@@ -1,4 +1,4 @@
-ghost use Rattle.std.specs.Prelude.{◌≡◌, ◌<◌, ◌+◌, [], ◌∷◌, drop, filter, IfOk, OnOk, OnErr, None, is_some, length, map, nat_eq};
+ghost use Rattle.std.specs.Prelude.{◌≡◌, ◌<◌, [], filter, IfOk, OnOk, OnErr, None, is_some, length, map, nat_eq};
 ghost use Rattle.std.specs.BTreeMap.{insert_entry, is_at};
 ghost use Rattle.std.specs.Map.{lookup, remove_entry};
 ghost use Rattle.std.specs.Option.{option_copied};
@@ -14,21 +14,18 @@ use std::marker::Model;
 #[derive(Drop)]
 pub(crate) struct PairMap<V> {
     rows: Vec<NumberMap<V>>,
-    count: usize,
 }
 
 impl<V> Model for PairMap<V> {
     ghost use Rattle.std.specs.Prelude.{List, ℕ};
     ghost use Rattle.std.specs.Coded.{coded_list, coded×, coded_ℕ};
-    ghost use Rattle.object_store.specs.Pairs.{AreCounted, pairs};
+    ghost use Rattle.object_store.specs.Pairs.{pairs};
 
     ghost Value = { List ((ℕ × ℕ) × V) };
 
     ghost coded = { coded_list (coded× (coded× coded_ℕ coded_ℕ) V.code) };
 
     ghost view = { λ m. pairs 0 m.rows.items };
-
-    ghost invariant = { λ m. AreCounted m.rows.items m.count };
 }
 
 /// Adds rows until there is one of this number.
@@ -52,14 +49,7 @@ impl<V: Drop> PairMap<V> {
     {
         PairMap {
             rows: Vec::new(alloc),
-            count: 0,
         }
-    }
-
-    pub(crate) fn len(&self) -> usize
-        ensures { result ≡ length self.now }
-    {
-        self.count
     }
 
     /// The value of two numbers.
@@ -103,7 +93,6 @@ impl<V: Drop> PairMap<V> {
         let row = first as usize;
         grow(alloc, &mut self.rows, row)?;
         self.rows[row].insert(alloc, second, value)?;
-        self.count += 1;
         Ok(())
     }
 
@@ -113,7 +102,6 @@ impl<V: Drop> PairMap<V> {
     {
         if self.has(first, second) {
             self.rows[first as usize].remove(second);
-            self.count -= 1;
         }
     }
 }

@@ -1,5 +1,6 @@
 -- Operations of integers, by the integers that their operands are.
 use Rattle.std.proofs.Common.{◌≡◌, ℕ, ℤ, suc, ◌-◌, ◌<◌, true, cond, is_some, nat_le, List, Option, Some, None, unwrap_or, refl, ap, ◌∙◌, arith}
+use Rattle.std.specs.Option.{option_and_then}
 use Rattle.std.proofs.lemmas.Bool.{le-leb}
 use Rattle.ocl_values.specs.Integers.{int_op_value}
 use Rattle.ocl_values.specs.Shape.{size_of}
@@ -16,8 +17,8 @@ use Rattle.ocl_operations.specs.Operators.{decided}
 use Rattle.ocl_eval.specs.declared.meter.Meter.{Meter}
 use Rattle.ocl_eval.specs.Evaluation.{ev}
 use Rattle.ocl_eval.specs.Evaluations.{Evaluation, Outcome, ◌>>=◌, pay, pure, spend, then_with}
-use Rattle.ocl_eval.specs.Integers.{integer, integer_in, integers, of_integers, ready, ready_in, small, small_in, small_ready}
-use Rattle.ocl_eval.specs.Nodes.{binary, entry_of, layer, node, right}
+use Rattle.ocl_eval.specs.Integers.{at_hand, at_hand_in, integer, integer_in, integers, of_integers, ready, small, small_ready}
+use Rattle.ocl_eval.specs.Nodes.{binary, layer, node, right}
 use Rattle.ocl_eval.specs.Scenes.{Scene}
 use Rattle.ocl_eval.proofs.Depth.{deeper}
 
@@ -59,6 +60,35 @@ module _ (e : List Value → Expr → Evaluation Value) (env : List Value) (op :
 
 -- ---- an operand that stands ready
 
+module _ (v : Value) (m : Meter) where
+  module _ (s : Scene) (e : When → List Value → Expr → Evaluation Value) (at : When) (env : List Value) where
+    hand_layer : (l : Layer) → at_hand_in env l ≡ Some v → layer s e at env l m ≡ pay v m
+    hand_layer (Expr-F.Literal u) h = ap (λ o. pay (unwrap_or o Invalid) m) h
+    hand_layer (Expr-F.Local k) h = ap (λ o. pay (unwrap_or o Invalid) m) h
+    hand_layer (Expr-F.Unary op a) h = absurd (cc)
+    hand_layer (Expr-F.Binary op a b) h = absurd (cc)
+    hand_layer (Expr-F.If c a b) h = absurd (cc)
+    hand_layer (Expr-F.Let a b) h = absurd (cc)
+    hand_layer (Expr-F.Make kind all) h = absurd (cc)
+    hand_layer (Expr-F.Plain op all) h = absurd (cc)
+    hand_layer (Expr-F.Coll op all) h = absurd (cc)
+    hand_layer (Expr-F.Iter op source count start body) h = absurd (cc)
+    hand_layer (Expr-F.Attr a number when) h = absurd (cc)
+    hand_layer (Expr-F.Derived a number when) h = absurd (cc)
+    hand_layer (Expr-F.Nav a assoc end when) h = absurd (cc)
+    hand_layer (Expr-F.Extent class when) h = absurd (cc)
+    hand_layer (Expr-F.Query a op all) h = absurd (cc)
+    hand_layer (Expr-F.Test test a t when) h = absurd (cc)
+    hand_layer (Expr-F.IsNew a) h = absurd (cc)
+    hand_layer (Expr-F.ToSet a) h = absurd (cc)
+
+  hand_node : (s : Scene) (k : ℕ) (at : When) (env : List Value) (x : Expr) → at_hand env x ≡ Some v → ev s (suc k) at env x m ≡ pay v m
+  unfolding ev node at_hand
+  hand_node s k at env x h = hand_layer s (ev s k) at env (out-Expr x) h
+
+  at_hand_gives : (s : Scene) (levels : ℕ) (at : When) (env : List Value) (x : Expr) → 0 < levels → at_hand env x ≡ Some v → ev s levels at env x m ≡ pay v m
+  at_hand_gives s levels at env x more h = deeper (λ k. ev s k at env x m) levels more ∙ hand_node s (levels - 1) at env x h
+
 is_integer : (v : Value) (n : ℤ) → integer_in v ≡ Some n → v ≡ Int n
 is_integer Null n h = absurd (cc)
 is_integer Invalid n h = absurd (cc)
@@ -82,35 +112,14 @@ module _ (n : ℤ) (m : Meter) (some : 0 < m.fuel) where
   paid_as : (v : Value) → integer_in v ≡ Some n → pay v m ≡ after
   paid_as v h = ap (λ x. pay x m) (is_integer v n h) ∙ paid
 
-  module _ (s : Scene) (e : When → List Value → Expr → Evaluation Value) (at : When) (env : List Value) where
-    in_layer : (l : Layer) → ready_in env l ≡ Some n → layer s e at env l m ≡ after
-    in_layer (Expr-F.Literal v) h = paid_as v h
-    in_layer (Expr-F.Local k) h = paid_as (entry_of env k) h
-    in_layer (Expr-F.Unary op a) h = absurd (cc)
-    in_layer (Expr-F.Binary op a b) h = absurd (cc)
-    in_layer (Expr-F.If c a b) h = absurd (cc)
-    in_layer (Expr-F.Let a b) h = absurd (cc)
-    in_layer (Expr-F.Make kind all) h = absurd (cc)
-    in_layer (Expr-F.Plain op all) h = absurd (cc)
-    in_layer (Expr-F.Coll op all) h = absurd (cc)
-    in_layer (Expr-F.Iter op source count start body) h = absurd (cc)
-    in_layer (Expr-F.Attr a number when) h = absurd (cc)
-    in_layer (Expr-F.Derived a number when) h = absurd (cc)
-    in_layer (Expr-F.Nav a assoc end when) h = absurd (cc)
-    in_layer (Expr-F.Extent class when) h = absurd (cc)
-    in_layer (Expr-F.Query a op all) h = absurd (cc)
-    in_layer (Expr-F.Test test a t when) h = absurd (cc)
-    in_layer (Expr-F.IsNew a) h = absurd (cc)
-    in_layer (Expr-F.ToSet a) h = absurd (cc)
-
-  in_node : (s : Scene) (k : ℕ) (at : When) (env : List Value) (x : Expr) → ready env x ≡ Some n → ev s (suc k) at env x m ≡ after
-  unfolding ev node ready
-  in_node s k at env x h = in_layer s (ev s k) at env (out-Expr x) h
-
   by_ready : (s : Scene) (levels : ℕ) (at : When) (env : List Value) (x : Expr) → 0 < levels → ready env x ≡ Some n
       → integer (ev s levels at) env x m ≡ (Some (Some n), record m { fuel = m.fuel - 1 })
-  by_ready s levels at env x more h =
-      ap (λ o. then_with o (λ v. pure (integer_in v))) (deeper (λ k. ev s k at env x m) levels more ∙ in_node s (levels - 1) at env x h)
+  by_ready s levels at env x more h = by (at_hand env x) refl h
+    where
+      by : (o : Option Value) → at_hand env x ≡ o → option_and_then integer_in o ≡ Some n
+          → integer (ev s levels at) env x m ≡ (Some (Some n), record m { fuel = m.fuel - 1 })
+      by None e h = absurd (cc)
+      by (Some v) e h = ap (λ o. then_with o (λ v. pure (integer_in v))) (at_hand_gives v m s levels at env x more e ∙ paid_as v h)
 
 pub ready_gives : (o : Option ℤ) (m : Meter) (s : Scene) (levels : ℕ) (at : When) (env : List Value) (x : Expr) → is_some o ≡ true → 0 < m.fuel → 0 < levels
     → ready env x ≡ o → integer (ev s levels at) env x m ≡ (Some o, record m { fuel = m.fuel - 1 })
@@ -139,30 +148,9 @@ module _ (w : Value) (m : Meter) (some : 0 < m.fuel) where
       ∙ ap (λ b. then_with (cond b (Some tt, record m { fuel = m.fuel - 1 }) (None, m)) (λ _. pure v)) (le-leb 1 m.fuel (omega (arith, some)))
       ∙ ap (λ x. (Some x, record m { fuel = m.fuel - 1 })) (small_one v w h).0
 
-  module _ (s : Scene) (e : When → List Value → Expr → Evaluation Value) (at : When) (env : List Value) where
-    small_layer : (l : Layer) → small_in env l ≡ Some w → layer s e at env l m ≡ spent
-    small_layer (Expr-F.Literal v) h = small_paid v h
-    small_layer (Expr-F.Local k) h = small_paid (entry_of env k) h
-    small_layer (Expr-F.Unary op a) h = absurd (cc)
-    small_layer (Expr-F.Binary op a b) h = absurd (cc)
-    small_layer (Expr-F.If c a b) h = absurd (cc)
-    small_layer (Expr-F.Let a b) h = absurd (cc)
-    small_layer (Expr-F.Make kind all) h = absurd (cc)
-    small_layer (Expr-F.Plain op all) h = absurd (cc)
-    small_layer (Expr-F.Coll op all) h = absurd (cc)
-    small_layer (Expr-F.Iter op source count start body) h = absurd (cc)
-    small_layer (Expr-F.Attr a number when) h = absurd (cc)
-    small_layer (Expr-F.Derived a number when) h = absurd (cc)
-    small_layer (Expr-F.Nav a assoc end when) h = absurd (cc)
-    small_layer (Expr-F.Extent class when) h = absurd (cc)
-    small_layer (Expr-F.Query a op all) h = absurd (cc)
-    small_layer (Expr-F.Test test a t when) h = absurd (cc)
-    small_layer (Expr-F.IsNew a) h = absurd (cc)
-    small_layer (Expr-F.ToSet a) h = absurd (cc)
-
-  small_node : (s : Scene) (k : ℕ) (at : When) (env : List Value) (x : Expr) → small_ready env x ≡ Some w → ev s (suc k) at env x m ≡ spent
-  unfolding ev node small_ready
-  small_node s k at env x h = small_layer s (ev s k) at env (out-Expr x) h
-
   pub small_gives : (s : Scene) (levels : ℕ) (at : When) (env : List Value) (x : Expr) → 0 < levels → small_ready env x ≡ Some w → ev s levels at env x m ≡ spent
-  small_gives s levels at env x more h = deeper (λ k. ev s k at env x m) levels more ∙ small_node s (levels - 1) at env x h
+  small_gives s levels at env x more h = by (at_hand env x) refl h
+    where
+      by : (o : Option Value) → at_hand env x ≡ o → option_and_then small o ≡ Some w → ev s levels at env x m ≡ spent
+      by None e h = absurd (cc)
+      by (Some v) e h = at_hand_gives v m s levels at env x more e ∙ small_paid v h

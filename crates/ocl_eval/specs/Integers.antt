@@ -1,5 +1,5 @@
 -- Operations of integers, by the integers that their operands are.
-use Rattle.std.specs.Prelude.{ℤ, List, Option, Some, None}
+use Rattle.std.specs.Prelude.{ℤ, List, Option, Some, None, option_and_then, slice_get}
 use Rattle.ocl_values.specs.Integers.{int_op_value}
 use Rattle.ocl_values.specs.declared.integer.IntOp.{IntOp}
 use Rattle.ocl_values.specs.declared.value.Value.{Value}
@@ -9,23 +9,13 @@ use Rattle.ocl_core.specs.declared.expression.Expr.{Expr, out-Expr}
 use Rattle.ocl_core.specs.declared.expression.Expr.TheOpen.{Expr-F}
 use Rattle.ocl_core.specs.Trees.{Layer}
 use Rattle.ocl_eval.specs.Evaluations.{Evaluation, ◌>>=◌, pay, pure}
-use Rattle.ocl_eval.specs.Nodes.{entry_of}
 
 -- the integer that a value is
 abbrev pub integer_in : Value → Option ℤ
 integer_in (Int n) = Some n
 integer_in _ = None
 
--- the integer that a literal is, or an entry of the environment
-abbrev pub ready_in : List Value → Layer → Option ℤ
-ready_in env (Expr-F.Literal v) = integer_in v
-ready_in env (Expr-F.Local n) = integer_in (entry_of env n)
-ready_in env _ = None
-
-unfoldable pub ready : List Value → Expr → Option ℤ
-ready env e = ready_in env (out-Expr e)
-
--- a value of size 1 that is no word of its own
+-- a value that is null, a truth value, an integer or an object, which has size 1
 abbrev pub small : Value → Option Value
 small Null = Some Null
 small (V.Bool b) = Some (V.Bool b)
@@ -33,14 +23,21 @@ small (Int n) = Some (Int n)
 small (V.Obj o) = Some (V.Obj o)
 small _ = None
 
--- the same as a literal, or an entry of the environment
-abbrev pub small_in : List Value → Layer → Option Value
-small_in env (Expr-F.Literal v) = small v
-small_in env (Expr-F.Local n) = small (entry_of env n)
-small_in env _ = None
+-- the value that a literal is, or an entry of the environment
+abbrev pub at_hand_in : List Value → Layer → Option Value
+at_hand_in env (Expr-F.Literal v) = Some v
+at_hand_in env (Expr-F.Local n) = slice_get env n
+at_hand_in env _ = None
 
-unfoldable pub small_ready : List Value → Expr → Option Value
-small_ready env e = small_in env (out-Expr e)
+unfoldable pub at_hand : List Value → Expr → Option Value
+at_hand env e = at_hand_in env (out-Expr e)
+
+-- the integer that stands ready so, and the value of size 1
+abbrev pub ready : List Value → Expr → Option ℤ
+ready env e = option_and_then integer_in (at_hand env e)
+
+abbrev pub small_ready : List Value → Expr → Option Value
+small_ready env e = option_and_then small (at_hand env e)
 
 -- the integer that a part gives
 abbrev pub integer : (List Value → Expr → Evaluation Value) → List Value → Expr → Evaluation (Option ℤ)

@@ -1,9 +1,10 @@
 ghost use Rattle.std.specs.Prelude.{◌≡◌, ◌+◌, IfOk, MatchOption, None, ⊤};
+ghost use Rattle.std.specs.Option.{option_copied};
 ghost use Rattle.ocl_values.specs.Shape.{IsWellMade};
 ghost use Rattle.ocl_eval.specs.Parts.{Evaluates, ev_in};
 ghost use Rattle.ocl_eval.specs.Evaluations.{Gives};
-ghost use Rattle.ocl_eval.specs.Nodes.{entry_of, right};
-ghost use Rattle.ocl_eval.specs.Integers.{integer, integer_in, integers, of_integers, ready, small, small_ready};
+ghost use Rattle.ocl_eval.specs.Nodes.{right};
+ghost use Rattle.ocl_eval.specs.Integers.{at_hand, integer, integer_in, integers, of_integers, ready, small, small_ready};
 ghost use Rattle.ocl_core.specs.declared.operators.BinaryOp.TheVariants.{Eq};
 ghost use Rattle.ocl_core.specs.Trees.{IsSound};
 ghost use Rattle.ocl_core.specs.Programs.{IsSoundProgram};
@@ -24,24 +25,15 @@ fn integer_in(value: &Value) -> Option<i128>
     }
 }
 
-/// The integer that is bound at a place, if it is one.
-fn integer_at(locals: &Values, at: u32) -> Option<i128>
-    ensures { result ≡ integer_in (entry_of locals.now at) }
-{
-    match locals.as_slice().get(at as usize) {
-        Some(value) => integer_in(value),
-        None => None,
-    }
-}
-
-/// The integer that stands ready as a literal or in the environment, if it is one.
-#[tactic(auto, unfolding(crate::specs::Integers::ready))]
-fn ready(e: &Expr, locals: &Values) -> Option<i128>
-    ensures { result ≡ ready locals.now e.now }
+/// The value that stands ready as a literal or in the environment.
+#[tactic(auto, unfolding(crate::specs::Integers::at_hand))]
+#[inline]
+fn at_hand<'a>(e: &'a Expr, locals: &'a Values) -> Option<&'a Value>
+    ensures { option_copied result ≡ at_hand locals.now e.now }
 {
     match e {
-        Expr::Literal(value) => integer_in(value),
-        Expr::Local(number) => integer_at(locals, *number),
+        Expr::Literal(value) => Some(value),
+        Expr::Local(number) => locals.get(*number as usize),
         Expr::Unary(_, _)
         | Expr::Binary(_, _, _)
         | Expr::If(_, _, _)
@@ -61,7 +53,18 @@ fn ready(e: &Expr, locals: &Values) -> Option<i128>
     }
 }
 
-/// A copy of a value of size 1.
+/// The integer that stands ready, if it is one.
+#[inline]
+fn ready(e: &Expr, locals: &Values) -> Option<i128>
+    ensures { result ≡ ready locals.now e.now }
+{
+    match at_hand(e, locals) {
+        Some(value) => integer_in(value),
+        None => None,
+    }
+}
+
+/// A copy of a value that is null, a truth value, an integer or an object.
 #[inline]
 fn small(value: &Value) -> Option<Value>
     ensures value { result ≡ small value.now }
@@ -76,41 +79,15 @@ fn small(value: &Value) -> Option<Value>
     }
 }
 
-fn small_at(locals: &Values, at: u32) -> Option<Value>
-    ensures value { result ≡ small (entry_of locals.now at) }
-    ensures well_made { MatchOption result ⊤ IsWellMade }
-{
-    match locals.as_slice().get(at as usize) {
-        Some(value) => small(value),
-        None => None,
-    }
-}
-
-/// The value of size 1 that stands ready as a literal or in the environment, if it is one.
-#[tactic(auto, unfolding(crate::specs::Integers::small_ready))]
+/// The value of size 1 that stands ready, if it is one.
+#[inline]
 fn small_ready(e: &Expr, locals: &Values) -> Option<Value>
     ensures value { result ≡ small_ready locals.now e.now }
     ensures well_made { MatchOption result ⊤ IsWellMade }
 {
-    match e {
-        Expr::Literal(value) => small(value),
-        Expr::Local(number) => small_at(locals, *number),
-        Expr::Unary(_, _)
-        | Expr::Binary(_, _, _)
-        | Expr::If(_, _, _)
-        | Expr::Let(_, _)
-        | Expr::Make(_, _)
-        | Expr::Plain(_, _)
-        | Expr::Coll(_, _)
-        | Expr::Iter(_, _, _, _, _)
-        | Expr::Attr(_, _, _)
-        | Expr::Derived(_, _, _)
-        | Expr::Nav(_, _, _, _)
-        | Expr::Extent(_, _)
-        | Expr::Query(_, _, _)
-        | Expr::Test(_, _, _, _)
-        | Expr::IsNew(_)
-        | Expr::ToSet(_) => None,
+    match at_hand(e, locals) {
+        Some(value) => small(value),
+        None => None,
     }
 }
 

@@ -1,4 +1,5 @@
 ghost use Rattle.std.specs.Prelude.{◌≡◌, [], ◌∷◌, ◌++◌, All, IfOk, OnErr, OnOk, MatchOption, ◌<◌, length, slice_get, slice_set, take, unwrap_or};
+ghost use Rattle.std.specs.Option.{option_copied};
 ghost use Rattle.ocl_values.specs.Shape.{IsWellMade};
 ghost use Rattle.ocl_eval.specs.Places.{front};
 ghost use Rattle.ocl_values.specs.declared.value.Value.TheVariants.{Invalid};
@@ -51,6 +52,14 @@ impl Values {
         ensures { result ≡ items.items }
     {
         Values { items }
+    }
+
+    /// The value at a place, if there is one.
+    #[inline]
+    pub(crate) fn get(&self, at: usize) -> Option<&Value>
+        ensures { option_copied result ≡ slice_get self.now at }
+    {
+        self.items.get(at)
     }
 
     /// Puts a value before all others.

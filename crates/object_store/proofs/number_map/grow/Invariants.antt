@@ -1,4 +1,4 @@
-use Rattle.std.proofs.Common.{◌≡◌, ◌+◌, ◌-◌, ◌≤◌, length}
+use Rattle.std.proofs.Common.{◌≡◌, ◌+◌, ◌-◌, ◌≤◌, ◌^◌, length}
 use Rattle.object_store.specs.Cells.{entries}
 use Rattle.object_store.specs.Pages.{AreWhole, all_cells}
 use Rattle.object_store.proofs.number_map.grow.Given as goal

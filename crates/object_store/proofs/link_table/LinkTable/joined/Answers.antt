@@ -10,7 +10,7 @@ pub returns-in-First : goal.returns-in-First
 returns-in-First c =
     if_ok c.objects_at.result (λ v e. e
     ∙ ends_in_range (λ x. x.1) (λ x. x.0) (λ o p. (p, o)) (λ o p. refl) (λ o p. refl) (λ x. refl) c.self.inside.links c.self.inside.firsts.entries
-    c.self.invariant.ordered c.self.invariant.firsts_ordered c.self.invariant.small c.self.invariant.firsts_tied c.args.assoc c.args.object Obj
+    c.self.invariant.0.ordered c.self.invariant.0.firsts_ordered c.self.invariant.0.small c.self.invariant.0.firsts_tied c.args.assoc c.args.object Obj
     ∙ ap (λ (l : List ((ℕ × ℕ) × (ℕ × ℕ))). map Obj (joined_in l c.args.assoc First c.args.object)) c.self.view_is
     ∙ ap (λ d. map Obj (joined_in c.args.self.now c.args.assoc d c.args.object)) (sym c.in-First.is)) c.objects_at.ensures
 
@@ -18,6 +18,6 @@ pub returns-in-Second : goal.returns-in-Second
 returns-in-Second c =
     if_ok c.objects_at-in-Second.result (λ v e. e
     ∙ ends_in_range (λ x. x.0) (λ x. x.1) (λ o p. (o, p)) (λ o p. refl) (λ o p. refl) (λ x. refl) c.self.inside.links c.self.inside.seconds.entries
-    c.self.invariant.ordered c.self.invariant.seconds_ordered c.self.invariant.small c.self.invariant.seconds_tied c.args.assoc c.args.object Obj
+    c.self.invariant.0.ordered c.self.invariant.0.seconds_ordered c.self.invariant.0.small c.self.invariant.0.seconds_tied c.args.assoc c.args.object Obj
     ∙ ap (λ (l : List ((ℕ × ℕ) × (ℕ × ℕ))). map Obj (joined_in l c.args.assoc Second c.args.object)) c.self.view_is
     ∙ ap (λ d. map Obj (joined_in c.args.self.now c.args.assoc d c.args.object)) (sym c.in-Second.is)) c.objects_at-in-Second.ensures

@@ -6,7 +6,7 @@ use Rattle.object_store.proofs.link_table.LinkTable.stamp.Goals as goal
 pub returns : goal.returns
 returns c =
     c.copied.ensures ∙ c.get.ensures.value
-    ∙ stamp_found c.self.inside.links (stamp_at c.self.inside.stamps) c.self.inside.seconds.entries c.self.inside.firsts.entries c.self.invariant
+    ∙ stamp_found c.self.inside.links (stamp_at c.self.inside.stamps) c.self.inside.seconds.entries c.self.inside.firsts.entries c.self.invariant.0
     c.args.assoc
     c.args.first c.args.second
     ∙ ap (λ l. stamp_in l c.args.assoc c.args.first c.args.second) c.self.view_is
