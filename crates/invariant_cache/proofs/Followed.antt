@@ -204,17 +204,17 @@ module _ (m : ObjectModel) (s : State) (v : IsValid (layout_of m) s) where
       let fit : length s.links ≤ max_links = v.links.fit in
       omega arith
 
-  counted : (t : State) (a p : ℕ) (e : End) → length (joined t a e p) ≡ length (filter (has_at a (opposite e) p) t.links)
-  counted t a p e = length-map (filter (has_at a (opposite e) p) t.links) (λ entry. end_of entry.1 e)
+  joined_count : (t : State) (a p : ℕ) (e : End) → length (joined t a e p) ≡ length (filter (has_at a (opposite e) p) t.links)
+  joined_count t a p e = length-map (filter (has_at a (opposite e) p) t.links) (λ entry. end_of entry.1 e)
 
   pub linked_in : (d : LinkChange) → Fits (layout_of m) s (Link d) → (n : Navigation)
       → recount m (Link d) n (count_in m s n) ≡ count_in m (apply (layout_of m) s (Link d)) n
   linked_in d f (a, (e, p)) = by_test (reaches (a, (e, p)) d)
       (λ y. ap (λ b. cond b (one_more (seen (joined s a e p) (stands (layout_of m) s a (opposite e) p))) (seen (joined s a e p) (stands (layout_of m) s a (opposite e) p))) y
       ∙ ap one_more (seen_length (joined s a e p) (stands (layout_of m) s a (opposite e) p))
-      ∙ more (stands (layout_of m) s a (opposite e) p) (length (joined s a e p)) (length (joined (apply (layout_of m) s (Link d)) a e p)) (few a p e) (counted (apply (layout_of m) s (Link d)) a p e
+      ∙ more (stands (layout_of m) s a (opposite e) p) (length (joined s a e p)) (length (joined (apply (layout_of m) s (Link d)) a e p)) (few a p e) (joined_count (apply (layout_of m) s (Link d)) a p e
       ∙ filter_insert_in link_total (has_at a (opposite e) p) s.links (d.assoc, d.stamp) (d.first, d.second) free y
-      ∙ ap suc (sym (counted s a p e)))
+      ∙ ap suc (sym (joined_count s a p e)))
       ∙ sym (seen_length (joined (apply (layout_of m) s (Link d)) a e p) (stands (layout_of m) s a (opposite e) p)))
       (λ n. ap (λ b. cond b (one_more (seen (joined s a e p) (stands (layout_of m) s a (opposite e) p))) (seen (joined s a e p) (stands (layout_of m) s a (opposite e) p))) n
       ∙ ap (λ (es : List Joint). seen (map (λ entry. end_of entry.1 e) es) (stands (layout_of m) s a (opposite e) p))
@@ -232,10 +232,10 @@ module _ (m : ObjectModel) (s : State) (v : IsValid (layout_of m) s) where
   unlinked d f (a, (e, p)) = by_test (reaches (a, (e, p)) d)
       (λ y. ap (λ b. cond b (one_less (seen (joined s a e p) (stands (layout_of m) s a (opposite e) p))) (seen (joined s a e p) (stands (layout_of m) s a (opposite e) p))) y
       ∙ ap one_less (seen_length (joined s a e p) (stands (layout_of m) s a (opposite e) p))
-      ∙ less (stands (layout_of m) s a (opposite e) p) (length (joined s a e p)) (length (joined (apply (layout_of m) s (Unlink d)) a e p)) (counted s a p e
+      ∙ less (stands (layout_of m) s a (opposite e) p) (length (joined s a e p)) (length (joined (apply (layout_of m) s (Unlink d)) a e p)) (joined_count s a p e
       ∙ ap (λ (es : List Joint). length (filter (has_at a (opposite e) p) es)) (sym back)
       ∙ filter_insert_in link_total (has_at a (opposite e) p) (apply (layout_of m) s (Unlink d)).links (d.assoc, d.stamp) (d.first, d.second) free y
-      ∙ ap suc (sym (counted (apply (layout_of m) s (Unlink d)) a p e)))
+      ∙ ap suc (sym (joined_count (apply (layout_of m) s (Unlink d)) a p e)))
       ∙ sym (seen_length (joined (apply (layout_of m) s (Unlink d)) a e p) (stands (layout_of m) s a (opposite e) p)))
       (λ n. ap (λ b. cond b (one_less (seen (joined s a e p) (stands (layout_of m) s a (opposite e) p))) (seen (joined s a e p) (stands (layout_of m) s a (opposite e) p))) n
       ∙ ap (λ (es : List Joint). seen (map (λ entry. end_of entry.1 e) es) (stands (layout_of m) s a (opposite e) p))
@@ -282,5 +282,5 @@ begins m counts broken e f = record {
   valid = empty_valid (layout_of m);
   counts = λ n. ap (λ (es : List (Navigation × ℕ)). counted es n) e;
   broken = λ n. ap (λ (es : List (Navigation × ℕ)). found es n) f
-      ∙ sym (ap (λ (es : List (Navigation × ℕ)). option_and_then (unless_allowed m n) (found es n)) e);
+      ∙ sym (ap (λ (es : List (Navigation × ℕ)). option_and_then (unless_allowed m n) (counted es n)) e);
 }
