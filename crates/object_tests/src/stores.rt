@@ -77,7 +77,7 @@ fn link_one(store: &mut Store, first: u32, second: u32) -> Result<Option<StoreFa
         Some(change) => match store.fits(&change) {
             Err(fault) => Ok(Some(fault)),
             Ok(()) => {
-                store.apply(change)?;
+                store.carry_out(&change)?;
                 Ok(None)
             }
         },
