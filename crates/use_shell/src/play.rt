@@ -18,6 +18,7 @@ use crate::moves::take_piece;
 use crate::{Manner, Player, Status, Stop};
 use grammar_core::Grammar;
 use ocl_program::Program;
+use std::mem;
 use std::sync::ledger::Ledger;
 use use_io::{Shelf, Sink, Source};
 use use_steps::Steps;
@@ -151,7 +152,7 @@ pub(crate) fn play_source<S: Source, F: Shelf, K: Sink, L: Ledger>(
 {
     let mut cutter = Cutter::new(manner.alloc);
     let mut player = Player::new(manner.alloc, grammar, program)?;
-    play_pieces(
+    let ended = play_pieces(
         manner,
         limit,
         &mut player,
@@ -160,5 +161,9 @@ pub(crate) fn play_source<S: Source, F: Shelf, K: Sink, L: Ledger>(
         shelf,
         sink,
         steps,
-    )
+    );
+    // The program ends behind this, and the system takes all memory back at once, where to give back
+    // each object and each entry of the history takes a tenth of a run.
+    mem::forget(player);
+    ended
 }

@@ -152,7 +152,7 @@ fn play_words<F: Shelf, S: Source, K: Sink, L: Ledger>(
 
 /// Runs the program: reads the words and the model that they name, and then answers the commands of
 /// the source, and of the files that they open, each as soon as the piece that it ends in is taken. A
-/// fault ends it.
+/// fault ends it. What the session holds at the end is not given back, since the program ends then.
 pub fn run<F: Shelf, S: Source, K: Sink, L: Ledger>(
     alloc: Global,
     words: &[String],

@@ -4,15 +4,15 @@ use Rattle.use_shell.specs.declared.stop.Stop.TheVariants.{Memory}
 use Rattle.use_shell.proofs.StreamLemmas.{not_begun}
 use Rattle.use_shell.proofs.play.play_source.Goals as goal
 
-pub play_pieces-requires-clause-machine : goal.play_pieces-requires-clause-machine
-play_pieces-requires-clause-machine g c =
+pub play_pieces-ended-requires-clause-machine : goal.play_pieces-ended-requires-clause-machine
+play_pieces-ended-requires-clause-machine g c =
     c.in_ok-player.ensures.machine ∙ ap start (sym (ap (λ m. m.program) c.in_ok-player.ensures.machine))
 
 pub returns-clause-played : goal.returns-clause-played
-returns-clause-played g c = rw (ap (λ m. m.program) c.in_ok-player.ensures.machine) at c.play_pieces.ensures.played
+returns-clause-played g c = rw (ap (λ m. m.program) c.in_ok-player.ensures.machine) at c.play_pieces-ended.ensures.played
 
 pub returns-clause-cut_off : goal.returns-clause-cut_off
-returns-clause-cut_off g c = rw (ap (λ m. m.program) c.in_ok-player.ensures.machine) at c.play_pieces.ensures.cut_off
+returns-clause-cut_off g c = rw (ap (λ m. m.program) c.in_ok-player.ensures.machine) at c.play_pieces-ended.ensures.cut_off
 
 pub returns-in_err-player-clause-played : goal.returns-in_err-player-clause-played
 returns-in_err-player-clause-played g c =
