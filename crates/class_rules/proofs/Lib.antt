@@ -7,6 +7,7 @@ pub mod Unnumbered
 pub mod Acyclic
 pub mod LeastAbove
 pub mod Queued
+pub mod Pending
 pub mod Single
 pub mod Different
 pub mod Skipped

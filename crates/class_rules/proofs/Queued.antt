@@ -1,29 +1,16 @@
 -- Which classes may get the next number, as the numbering keeps it.
-use Rattle.std.proofs.Common.{◌≡◌, inl, inr, ◌++◌, ℕ, zero, suc, ◌<◌, ◌≤◌, Bool, true, false, not, ◌&&◌, ◌||◌, nat_cmp, nat_eq, List, [], ◌∷◌, fold, length, get_or, take, drop, Ordering, Less, Equal, Greater, replicate, Option, Some, None, refl, sym, ap, ap₂, ◌∙◌, arith, true≢false, ⊎_elim}
-use Rattle.std.specs.Prelude.{slice_get, slice_set}
-use Rattle.std.specs.List.{AllByRecursion, list_all, list_any}
-use Rattle.std.specs.BTreeSet.{insert_key}
-use Rattle.std.specs.Cmp.{unsigned_ties}
-use Rattle.std.specs.Option.{IfSome, IsSome}
-use Rattle.std.specs.Ordering.{is_eq, is_gt}
+use Rattle.std.proofs.Common.{◌≡◌, inl, inr, ◌++◌, ℕ, zero, suc, ◌<◌, ◌≤◌, Bool, true, false, not, ◌&&◌, ◌||◌, nat_eq, List, [], ◌∷◌, length, get_or, take, replicate, Option, Some, None, refl, sym, ap, ap₂, ◌∙◌, arith, true≢false, ⊎_elim}
+use Rattle.std.specs.Prelude.{slice_set}
+use Rattle.std.specs.List.{list_all}
 use Rattle.std.proofs.lemmas.Bool.{cases_Bool}
 use Rattle.std.proofs.lemmas.Bool.Decides.{eqb_tells}
-use Rattle.std.proofs.lemmas.Cmp.{nat_cmp_total, ranked}
 use Rattle.std.proofs.lemmas.List.{get_or-set_other, get_or-set_same, length-replicate, length-set}
 use Rattle.std.proofs.lemmas.List.Folds.{list_any-append}
-use Rattle.use_orders.proofs.Sets.{has-insert_new}
 use Rattle.class_decls.proofs.Numbered.{all_taken}
 use Rattle.class_rules.specs.Numbering.{is_among, least_below, may_follow_flags, row_at}
 use Rattle.class_rules.specs.Queue.{IsQueued, has_number}
+use Rattle.class_rules.specs.Ready.{ReadyPlaces, is_ready}
 use Rattle.class_rules.proofs.Least.{least_found, least_none}
-use Rattle.class_rules.proofs.LeastAbove.{among_has}
-use Rattle.class_rules.proofs.Upward.{insert_same}
-
-or_comm : (a b : Bool) → (a || b) ≡ (b || a)
-or_comm true true = refl
-or_comm true false = refl
-or_comm false true = refl
-or_comm false false = refl
 
 pub or_left : (a b : Bool) → a ≡ true → (a || b) ≡ true
 or_left true b h = refl
@@ -33,14 +20,6 @@ pub or_right : (a b : Bool) → b ≡ true → (a || b) ≡ true
 or_right true b h = refl
 or_right false b h = h
 
-both_or : (a b c : Bool) → ((a || b) || c) ≡ (a || (b || c))
-both_or true b c = refl
-both_or false b c = refl
-
-or_false : (a : Bool) → (a || false) ≡ a
-or_false true = refl
-or_false false = refl
-
 pub itself : (x : ℕ) → nat_eq x x ≡ true
 itself x = ⊎_elim (λ t. t.0) (λ t. absurd (t.1 refl)) (eqb_tells x x)
 
@@ -49,28 +28,6 @@ pub within : (done : List Bool) (i : ℕ) → has_number done i ≡ false → i 
 within [] i h = absurd (true≢false h)
 within (d ∷ ds) zero h = omega arith
 within (d ∷ ds) (suc i) h = let low = within ds i h in omega arith
-
-not_above_by : (a b : ℕ) (o : Ordering) → nat_cmp a b ≡ o → is_gt o ≡ false → a ≤ b
-not_above_by a b Less e h = let low = ranked a b Less (sym e) in omega arith
-not_above_by a b Equal e h = let same = ranked a b Equal (sym e) in omega arith
-not_above_by a b Greater e h = absurd (true≢false h)
-
-not_above : (a b : ℕ) → is_gt (nat_cmp a b) ≡ false → a ≤ b
-not_above a b h = not_above_by a b (nat_cmp a b) refl h
-
--- one key more
-pub among_insert : (ks : List ℕ) (k z : ℕ) → is_among (insert_key nat_cmp ks k) z ≡ (is_among ks z || nat_eq z k)
-among_insert ks k z =
-    among_has (insert_key nat_cmp ks k) z ∙ ap (λ l. list_any (λ y. is_eq (nat_cmp z y)) l) (insert_same ks k)
-    ∙ has-insert_new nat_cmp_total ks k z
-    ∙ ap₂ (λ a b. a || b) (sym (unsigned_ties z k)) (sym (among_has ks z))
-    ∙ or_comm (nat_eq z k) (is_among ks z)
-
--- some keys more
-pub among_fold : (ks cs : List ℕ) (z : ℕ) → is_among (fold (insert_key nat_cmp) ks cs) z ≡ (is_among ks z || is_among cs z)
-among_fold ks [] z = sym (or_false (is_among ks z))
-among_fold ks (c ∷ cs) z =
-    among_fold (insert_key nat_cmp ks c) cs z ∙ ap (λ b. b || is_among cs z) (among_insert ks c z) ∙ both_or (is_among ks z) (nat_eq z c) (is_among cs z)
 
 and_false : (c : Bool) → (c && false) ≡ false
 and_false true = refl
@@ -97,7 +54,7 @@ all_stay : (f g : ℕ → Bool) → ((p : ℕ) → f p ≡ true → g p ≡ true
 all_stay f g h [] e = refl
 all_stay f g h (x ∷ xs) e = stay (f x) (list_all f xs) (g x) (list_all g xs) e (h x) (all_stay f g h xs)
 
-left_by : (a b : Bool) → (a || b) ≡ true → a ≡ false → b ≡ true
+pub left_by : (a b : Bool) → (a || b) ≡ true → a ≡ false → b ≡ true
 left_by true b h e = absurd (true≢false e)
 left_by false b h e = h
 
@@ -107,8 +64,8 @@ past_end (x ∷ xs) zero d h = absurd (omega arith)
 past_end (x ∷ xs) (suc i) d h = past_end xs i d (omega arith)
 
 -- a class that is not ready to be looked at may not follow
-pub may_not : (parents : List (List ℕ)) (done : List Bool) (passed : List ℕ) (waiting : List (List ℕ)) (ready : List ℕ) →
-    IsQueued parents done passed waiting ready → (i : ℕ) → is_among ready i ≡ false → may_follow_flags parents done i ≡ false
+pub may_not : (parents : List (List ℕ)) (done : List Bool) (passed : List ℕ) (waiting : List (List ℕ)) (ready : ReadyPlaces) →
+    IsQueued parents done passed waiting ready → (i : ℕ) → is_ready ready i ≡ false → may_follow_flags parents done i ≡ false
 may_not parents done passed waiting ready q i h =
     ⊎_elim
     (λ e. ap (λ b. not b && list_all (has_number done) (row_at parents i)) e)
@@ -120,32 +77,40 @@ may_not parents done passed waiting ready q i h =
     (q.each i e))
     (cases_Bool (has_number done i))
 
+-- what is ready apart from one place stays ready
+others_ready : (ready rest : ReadyPlaces) (k i : ℕ) → ((j : ℕ) → is_ready ready j ≡ (nat_eq j k || is_ready rest j)) → nat_eq i k ≡ false → is_ready ready i ≡ true → is_ready rest i ≡ true
+others_ready ready rest k i kept other r = left_by (nat_eq i k) (is_ready rest i) (sym (kept i) ∙ r) other
+
 -- the first of those that are ready has a number, and is passed over
-pub passed_over : (parents : List (List ℕ)) (done : List Bool) (passed : List ℕ) (waiting : List (List ℕ)) (k : ℕ) (rest : List ℕ) →
-    IsQueued parents done passed waiting (k ∷ rest) → has_number done k ≡ true → IsQueued parents done passed waiting rest
-passed_over parents done passed waiting k rest q h = record {
+pub passed_over : (parents : List (List ℕ)) (done : List Bool) (passed : List ℕ) (waiting : List (List ℕ)) (k : ℕ) (ready rest : ReadyPlaces) →
+    IsQueued parents done passed waiting ready →
+    ((i : ℕ) → is_ready ready i ≡ (nat_eq i k || is_ready rest i)) →
+    has_number done k ≡ true → IsQueued parents done passed waiting rest
+passed_over parents done passed waiting k ready rest q kept h = record {
   flags = q.flags;
   counts = q.counts;
   lists = q.lists;
   each = λ i e.
       ⊎_elim
-      (λ r. inl (left_by (nat_eq i k) (is_among rest i) r
-      (⊎_elim (λ t. absurd (true≢false (sym h ∙ ap (has_number done) (sym t.1) ∙ e))) (λ t. t.0) (eqb_tells i k))))
+      (λ r. inl (others_ready ready rest k i kept
+      (⊎_elim (λ t. absurd (true≢false (sym h ∙ ap (has_number done) (sym t.1) ∙ e))) (λ t. t.0) (eqb_tells i k))
+      r))
       (λ w. inr w)
       (q.each i e);
   numbered = q.numbered;
 }
 
 -- the first of those that are ready waits for a parent from now on
-pub parked : (parents : List (List ℕ)) (done : List Bool) (passed : List ℕ) (waiting more : List (List ℕ)) (k : ℕ) (rest : List ℕ) (next parent : ℕ) →
-    IsQueued parents done passed waiting (k ∷ rest) →
+pub parked : (parents : List (List ℕ)) (done : List Bool) (passed : List ℕ) (waiting more : List (List ℕ)) (k : ℕ) (ready rest : ReadyPlaces) (next parent : ℕ) →
+    IsQueued parents done passed waiting ready →
+    ((i : ℕ) → is_ready ready i ≡ (nat_eq i k || is_ready rest i)) →
     k < length parents →
     list_all (has_number done) (take next (row_at parents k)) ≡ true →
     has_number done parent ≡ false → is_among (row_at parents k) parent ≡ true →
     length more ≡ length waiting → is_among (row_at more parent) k ≡ true →
     ((p i : ℕ) → is_among (row_at waiting p) i ≡ true → is_among (row_at more p) i ≡ true) →
     IsQueued parents done (slice_set passed k next) more rest
-parked parents done passed waiting more k rest next parent q low numbered bare parented size listed kept = record {
+parked parents done passed waiting more k ready rest next parent q keeps low numbered bare parented size listed kept = record {
   flags = q.flags;
   counts = length-set passed k next ∙ q.counts;
   lists = size ∙ q.lists;
@@ -158,7 +123,7 @@ parked parents done passed waiting more k rest next parent q low numbered bare p
         listed = ap (is_among (row_at more parent)) t.1 ∙ listed;
       }))
       (λ t. ⊎_elim
-      (λ r. inl (left_by (nat_eq i k) (is_among rest i) r t.0))
+      (λ r. inl (others_ready ready rest k i keeps t.0 r))
       (λ w. inr (record { parent = w.parent; unnumbered = w.unnumbered; parented = w.parented; listed = kept w.parent i w.listed }))
       (q.each i e))
       (eqb_tells i k);
@@ -187,9 +152,9 @@ flag_was done k p low h =
     (eqb_tells p k)
 
 -- a class got its number, and those that waited for it are ready to be looked at
-pub advanced : (parents : List (List ℕ)) (done : List Bool) (passed : List ℕ) (waiting : List (List ℕ)) (ready more : List ℕ) (k : ℕ) →
+pub advanced : (parents : List (List ℕ)) (done : List Bool) (passed : List ℕ) (waiting : List (List ℕ)) (ready more : ReadyPlaces) (k : ℕ) →
     IsQueued parents done passed waiting ready → k < length done →
-    ((i : ℕ) → is_among more i ≡ (is_among ready i || is_among (row_at waiting k) i)) →
+    ((i : ℕ) → is_ready more i ≡ (is_ready ready i || is_among (row_at waiting k) i)) →
     IsQueued parents (slice_set done k true) passed waiting more
 advanced parents done passed waiting ready more k q low released = record {
   flags = length-set done k true ∙ q.flags;
@@ -198,9 +163,9 @@ advanced parents done passed waiting ready more k q low released = record {
   each = λ i e.
       let was = flag_was done k i low e in
       ⊎_elim
-      (λ r. inl (released i ∙ or_left (is_among ready i) (is_among (row_at waiting k) i) r))
+      (λ r. inl (released i ∙ or_left (is_ready ready i) (is_among (row_at waiting k) i) r))
       (λ w. ⊎_elim
-      (λ t. inl (released i ∙ or_right (is_among ready i) (is_among (row_at waiting k) i) (ap (λ p. is_among (row_at waiting p) i) (sym t.1) ∙ w.listed)))
+      (λ t. inl (released i ∙ or_right (is_ready ready i) (is_among (row_at waiting k) i) (ap (λ p. is_among (row_at waiting p) i) (sym t.1) ∙ w.listed)))
       (λ t. inr (record {
         parent = w.parent;
         unnumbered = get_or-set_other done k w.parent true true t.1 ∙ w.unnumbered;
@@ -214,25 +179,20 @@ advanced parents done passed waiting ready more k q low released = record {
       (q.numbered i);
 }
 
-no_flag : (n i : ℕ) → has_number (replicate n false) i ≡ false → i < n
-no_flag zero i h = absurd (true≢false h)
-no_flag (suc n) zero h = omega arith
-no_flag (suc n) (suc i) h = let low = no_flag n i h in omega arith
-
 no_count : (n i : ℕ) → ◌≡◌ {A = ℕ} (get_or (replicate n 0) i 0) 0
 no_count zero i = refl
 no_count (suc n) zero = refl
 no_count (suc n) (suc i) = no_count n i
 
 -- all are ready to be looked at
-pub all_ready : (parents : List (List ℕ)) (waiting : List (List ℕ)) (ready : List ℕ) →
-    length waiting ≡ length parents → ((i : ℕ) → i < length parents → is_among ready i ≡ true) →
+pub all_ready : (parents : List (List ℕ)) (waiting : List (List ℕ)) (ready : ReadyPlaces) →
+    length waiting ≡ length parents → ((i : ℕ) → is_ready ready i ≡ true) →
     IsQueued parents (replicate (length parents) false) (replicate (length parents) 0) waiting ready
 all_ready parents waiting ready size all = record {
   flags = length-replicate (length parents) false;
   counts = length-replicate (length parents) 0;
   lists = size;
-  each = λ i e. inl (all i (no_flag (length parents) i e));
+  each = λ i e. inl (all i);
   numbered = λ i. ap (λ n. list_all (has_number (replicate (length parents) false)) (take n (row_at parents i))) (no_count (length parents) i);
 }
 
@@ -265,54 +225,29 @@ module _ (lists : List (List ℕ)) (parent i : ℕ) (row : List ℕ) (low : pare
       (λ t. ap (λ l. is_among l j) (row_is (slice_set lists parent row) p ∙ get_or-set_other lists parent p row [] t.1 ∙ sym (row_is lists p)) ∙ h)
       (eqb_tells p parent)
 
-least_by : (k x i : ℕ) (a : Bool) → is_gt (nat_cmp k x) ≡ false → (nat_eq i x || a) ≡ true → (a ≡ true → k ≤ i) → k ≤ i
-least_by k x i a up h f = ⊎_elim (λ t. let e : i ≡ x = t.1 in let low : k ≤ x = not_above k x up in omega arith) (λ t. f (sym (ap (λ b. b || a) t.0) ∙ h))
-    (eqb_tells i x)
+-- where the least that is ready stands above a place, that place is not ready
+none_above : (ready : ReadyPlaces) (k i : ℕ) → ((j : ℕ) → is_ready ready j ≡ true → k ≤ j) → i < k → is_ready ready i ≡ false
+none_above ready k i least low = ⊎_elim (λ e. let h : k ≤ i = least i e in absurd (omega arith)) (λ e. e) (cases_Bool (is_ready ready i))
 
--- the first of some keys is the least
-pub least_first : (k : ℕ) (ks : List ℕ) → AllByRecursion (λ q. is_gt (nat_cmp k q) ≡ false) ks → (i : ℕ) → is_among ks i ≡ true → k ≤ i
-least_first k [] up i h = absurd (true≢false (sym h))
-least_first k (x ∷ xs) up i h = least_by k x i (is_among xs i) up.0 h (least_first k xs up.1 i)
-
-pub none_first : (ks : List ℕ) → (0 < length ks → false ≡ true) → ◌≡◌ {A = Option ℕ} None (slice_get ks 0)
-none_first [] h = refl
-none_first (k ∷ ks) h = absurd (true≢false (sym (h (omega arith))))
-
-first_is : (ks : List ℕ) (k : ℕ) → ◌≡◌ {A = Option ℕ} (Some k) (slice_get ks 0) → ks ≡ k ∷ drop 1 ks
-first_is [] k e = cc
-first_is (x ∷ xs) k e = let h : k ≡ x = cc in ap (λ y. y ∷ xs) (sym h)
-
-no_first : (ks : List ℕ) → ◌≡◌ {A = Option ℕ} None (slice_get ks 0) → (i : ℕ) → is_among ks i ≡ false
-no_first [] e i = refl
-no_first (x ∷ xs) e i = cc
-
-none_above : (k i : ℕ) (ks : List ℕ) → ((j : ℕ) → is_among ks j ≡ true → k ≤ j) → i < k → is_among ks i ≡ false
-none_above k i ks least low = ⊎_elim (λ e. let h : k ≤ i = least i e in absurd (omega arith)) (λ e. e) (cases_Bool (is_among ks i))
-
-module _ (parents : List (List ℕ)) (done : List Bool) (passed : List ℕ) (waiting : List (List ℕ)) (ready : List ℕ)
+module _ (parents : List (List ℕ)) (done : List Bool) (passed : List ℕ) (waiting : List (List ℕ)) (ready : ReadyPlaces)
     (q : IsQueued parents done passed waiting ready) where
+  none_before : (k : ℕ) → ((j : ℕ) → is_ready ready j ≡ true → k ≤ j) → (i : ℕ) → i < k → may_follow_flags parents done i ≡ false
+  none_before k least i low = may_not parents done passed waiting ready q i (none_above ready k i least low)
+
   -- the first that is ready and waits for no parent gets the next number
-  pub next_found : (k next : ℕ) → ((j : ℕ) → is_among ready j ≡ true → k ≤ j) → has_number done k ≡ false →
+  pub next_found : (k next : ℕ) → ((j : ℕ) → is_ready ready j ≡ true → k ≤ j) → has_number done k ≡ false →
       list_all (has_number done) (take next (row_at parents k)) ≡ true → length (row_at parents k) ≤ next →
       ◌≡◌ {A = Option ℕ} (Some k) (least_below (may_follow_flags parents done) (length parents))
   next_found k next least bare numbered all =
       sym (least_found (may_follow_flags parents done) (length parents) k
-      (least_none (may_follow_flags parents done) k (λ i low. may_not parents done passed waiting ready q i (none_above k i ready least low)))
+      (least_none (may_follow_flags parents done) k (none_before k least))
       (ap₂ (λ a b. not a && b) bare (sym (ap (list_all (has_number done)) (all_taken (row_at parents k) next all)) ∙ numbered))
       (let size = q.flags in let low = within done k bare in omega arith))
 
-  -- none is left
-  pub none_left : ◌≡◌ {A = Option ℕ} None (slice_get ready 0) → ◌≡◌ {A = Option ℕ} None (least_below (may_follow_flags parents done) (length parents))
-  none_left e = sym (least_none (may_follow_flags parents done) (length parents) (λ i low. may_not parents done passed waiting ready q i (no_first ready e i)))
-
-head_is : (x y : ℕ) (xs ys : List ℕ) → x ∷ xs ≡ y ∷ ys → y ≡ x
-head_is x y xs ys e = cc
-
-pub popped : (o : Option ℕ) (ks rest : List ℕ) (k : ℕ) → ◌≡◌ {A = Option ℕ} (Some k) (slice_get ks 0) → (0 < length ks → IsSome o)
-    → IfSome o (λ x. ks ≡ x ∷ rest) → ks ≡ k ∷ rest
-popped o [] rest k e f g = cc
-popped None (x ∷ xs) rest k e f g = absurd (true≢false (sym (f (omega arith))))
-popped (Some y) (x ∷ xs) rest k e f g = let h : k ≡ x = cc in g ∙ ap (λ z. z ∷ rest) (head_is x y xs rest g ∙ sym h)
+  -- none of the classes is left
+  pub none_left : (k : ℕ) → ((j : ℕ) → is_ready ready j ≡ true → k ≤ j) → length parents ≤ k →
+      ◌≡◌ {A = Option ℕ} None (least_below (may_follow_flags parents done) (length parents))
+  none_left k least past = sym (least_none (may_follow_flags parents done) (length parents) (λ i low. none_before k least i (omega arith)))
 
 pub among_at : (xs : List ℕ) (n : ℕ) → n < length xs → is_among xs (get_or xs n 0) ≡ true
 among_at [] n h = absurd (omega arith)

@@ -1,5 +1,6 @@
 pub mod Groups
 pub mod Numbering
+pub mod Ready
 pub mod Queue
 pub mod Cycles
 pub mod Ancestors

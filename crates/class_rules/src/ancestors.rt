@@ -18,7 +18,7 @@ pub(crate) fn row_at(rows: &[Items<usize>], i: usize) -> &[usize]
     }
 }
 
-pub(crate) fn add_all(classes: &[usize], todo: &mut BTreeSet<usize>) -> Result<(), AllocError>
+fn add_all(classes: &[usize], todo: &mut BTreeSet<usize>) -> Result<(), AllocError>
     ensures { OnOk result (todo.new.keys ≡ fold (insert_key nat_cmp) todo.old.keys classes.now) }
 {
     'classes: for class in classes {

@@ -19,6 +19,7 @@ mod numbers;
 mod overriding;
 mod places;
 mod queue;
+mod ready;
 mod rules;
 mod sharing;
 mod unbroken;

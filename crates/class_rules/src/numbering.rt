@@ -1,7 +1,8 @@
 ghost use Rattle.std.specs.Prelude.{◌≡◌, IfOk};
 ghost use Rattle.class_rules.specs.Numbering.{numbering};
 
-use crate::queue::{all_places, next_place, no_lists, release};
+use crate::queue::{next_place, no_lists, release};
+use crate::ready::Ready;
 use std::alloc::{AllocError, Global};
 use use_lists::Items;
 
@@ -14,7 +15,7 @@ pub(crate) fn numbering(alloc: Global, parents: &[Items<usize>]) -> Result<Vec<u
     let mut done = vec![in alloc; false; parents.len()]?;
     let mut passed = vec![in alloc; 0; parents.len()]?;
     let mut waiting = no_lists(alloc, parents.len())?;
-    let mut ready = all_places(alloc, parents.len())?;
+    let mut ready = Ready::all(alloc);
     'numbers: for _number in 0..parents.len() {
         match next_place(
             parents,

@@ -1,11 +1,12 @@
-ghost use Rattle.std.specs.Prelude.{◌≡◌, ◌<◌, ◌≤◌, ◌||◌, ℕ, true, false, IfOk, IfSome, OnOk, length, slice_get, slice_index_or, take};
+ghost use Rattle.std.specs.Prelude.{◌≡◌, ◌<◌, ◌||◌, ℕ, true, false, IfOk, OnOk, length, slice_index_or, take};
 ghost use Rattle.std.specs.List.{list_all};
 ghost use Rattle.class_rules.specs.Numbering.{is_among, least_below, may_follow_flags, row_at};
 ghost use Rattle.class_rules.specs.Queue.{IsQueued, has_number};
+ghost use Rattle.class_rules.specs.Ready.{is_ready};
 
-use crate::ancestors::{add_all, row_at};
+use crate::ancestors::row_at;
+use crate::ready::Ready;
 use std::alloc::{AllocError, Global};
-use std::collections::BTreeSet;
 use use_lists::Items;
 
 /// Whether the class at a place has a number, or is none of those that are considered.
@@ -33,17 +34,6 @@ fn next_open(done: &[bool], row: &[usize], from: usize) -> usize
     row.len()
 }
 
-/// The classes of so many places.
-pub(crate) fn all_places(alloc: Global, count: usize) -> Result<BTreeSet<usize>, AllocError>
-    ensures { IfOk result (λ s. (i : ℕ) → i < count → is_among s.keys i ≡ true) }
-{
-    let mut places = BTreeSet::new(alloc);
-    'places: for place in 0..count {
-        places.insert(place)?;
-    }
-    Ok(places)
-}
-
 /// A list for each of so many classes, empty at first.
 pub(crate) fn no_lists(alloc: Global, count: usize) -> Result<Vec<Items<usize>>, AllocError>
     ensures { IfOk result (λ v. length v.items ≡ count) }
@@ -53,17 +43,6 @@ pub(crate) fn no_lists(alloc: Global, count: usize) -> Result<Vec<Items<usize>>,
         lists.push(Items::new(alloc))?;
     }
     Ok(lists)
-}
-
-/// The first of some classes.
-fn first_of(ready: &BTreeSet<usize>) -> Option<usize>
-    ensures first { result ≡ slice_get ready.now.keys 0 }
-    ensures least { IfSome result (λ place. (i : ℕ) → is_among ready.now.keys i ≡ true → place ≤ i) }
-{
-    match ready.first() {
-        None => None,
-        Some(place) => Some(*place),
-    }
 }
 
 /// A class waits for a parent.
@@ -84,13 +63,14 @@ pub(crate) fn next_place(
     done: &[bool],
     passed: &mut Vec<usize>,
     waiting: &mut Vec<Items<usize>>,
-    ready: &mut BTreeSet<usize>,
+    ready: &mut Ready,
 ) -> Result<Option<usize>, AllocError>
-    requires { IsQueued parents.now done.now passed.old.items waiting.old.items ready.old.keys }
+    requires { IsQueued parents.now done.now passed.old.items waiting.old.items ready.old }
     ensures place { IfOk result (λ place. place ≡ least_below (may_follow_flags parents.now done.now) (length parents.now)) }
-    ensures queued { OnOk result (IsQueued parents.now done.now passed.new.items waiting.new.items ready.new.keys) }
+    ensures queued { OnOk result (IsQueued parents.now done.now passed.new.items waiting.new.items ready.new) }
 {
-    'classes: while let Some(place) = first_of(ready) {
+    'classes: while ready.first() < parents.len() {
+        let place = ready.first();
         if !has_number(done, place) {
             let row = row_at(parents, place);
             let next = next_open(done, row, passed[place]);
@@ -100,7 +80,7 @@ pub(crate) fn next_place(
             }
             wait_for(waiting, row[next], place)?;
         }
-        ready.pop_first();
+        ready.drop_first();
     }
     Ok(None)
 }
@@ -109,10 +89,9 @@ pub(crate) fn next_place(
 pub(crate) fn release(
     waiting: &[Items<usize>],
     place: usize,
-    ready: &mut BTreeSet<usize>,
+    ready: &mut Ready,
 ) -> Result<(), AllocError>
-    ensures { OnOk result ((i : ℕ) → is_among ready.new.keys i ≡ (is_among ready.old.keys i || is_among (row_at waiting.now place) i)) }
+    ensures { OnOk result ((i : ℕ) → is_ready ready.new i ≡ (is_ready ready.old i || is_among (row_at waiting.now place) i)) }
 {
-    add_all(row_at(waiting, place), ready)?;
-    Ok(())
+    ready.add_all(row_at(waiting, place))
 }

@@ -9,7 +9,7 @@ numbers-init c =
     let counts = c.in_ok-passed.ensures.items_if_clones_equal (λ y e. e) in (
       rw (flags, c.new-order.ensures.items) (start c.args.parents.now),
       rw (flags, counts)
-          (all_ready c.args.parents.now c.in_ok-waiting.waiting.items c.in_ok-ready.ready.keys c.in_ok-waiting.ensures c.in_ok-ready.ensures),
+          (all_ready c.args.parents.now c.in_ok-waiting.waiting.items c.all-ready.result c.in_ok-waiting.ensures c.all-ready.ensures),
     )
 
 pub returns-in-None : goal.returns-in-None
@@ -34,7 +34,7 @@ numbers-preserved c =
       rw c.in_ok-push-in-Some.ensures.items
           (further c.args.parents.now c.numbers.done.items c.numbers.order.items c.numbers._number c.numbers.invariant.0 c.numbers-test.true
           c.in-Some.place found),
-      advanced c.args.parents.now c.numbers.done.items c.next_place.new.passed.items c.next_place.new.waiting.items c.next_place.new.ready.keys
-          c.release.new.ready.keys c.in-Some.place (rw c.as_slice.ensures.value at c.in_ok-next_place.ensures.queued) (omega arith)
+      advanced c.args.parents.now c.numbers.done.items c.next_place.new.passed.items c.next_place.new.waiting.items c.next_place.new.ready
+          c.release.new.ready c.in-Some.place (rw c.as_slice.ensures.value at c.in_ok-next_place.ensures.queued) (omega arith)
           (λ i. rw c.as_slice-in-Some.ensures.value at (c.in_ok-release-in-Some.ensures i)),
     )
