@@ -35,8 +35,19 @@ fn unread(shelf_failed: bool) -> &'static str {
     if shelf_failed { "a file" } else { "the input" }
 }
 
+/// The size of the blocks that stay with the program when it gives them up.
+const KEPT_BYTES: usize = 16_777_216;
+
+/// Gives up one large block. The C library's allocator returns blocks to the system that are larger
+/// than the largest one that was given up so far; without it, a long list would be mapped anew for each
+/// query. Where the block is refused, nothing is lost.
+fn keep_large_blocks(alloc: Global) {
+    let _ = Vec::<u8>::with_capacity(alloc, KEPT_BYTES);
+}
+
 fn main(rt: HostRuntime) -> ExitCode {
     let alloc = rt.alloc();
+    keep_large_blocks(alloc);
     // A word that is not UTF-8 makes the words a faulty command line.
     let words = match env::args(&rt) {
         Ok(args) => match args.collect::<Vec<String>>(alloc) {
