@@ -139,6 +139,12 @@ module _ {X : Type 0} where
   none_there zero (Some x ∷ cells) h = absurd (cc)
   none_there (suc k) (c ∷ cells) h = ap (λ r. c ∷ r) (none_there k cells h)
 
+  -- a cell that was cleared has no value
+  pub none_left : (k : ℕ) (cells : List (Option X)) → cell_in (slice_get (slice_set cells k None) k) ≡ None
+  none_left k [] = refl
+  none_left zero (c ∷ cells) = refl
+  none_left (suc k) (c ∷ cells) = none_left k cells
+
   -- where there is no value, none is taken
   pub absent : (k : ℕ) (cells : List (Option X)) → cell_in (slice_get cells k) ≡ None → entries 0 cells ≡ remove_entry (is_at (nat_cmp k)) (entries 0 cells)
   absent k cells h = ap (λ r. entries 0 r) (sym (none_there k cells h)) ∙ sym (taken k cells)
@@ -180,7 +186,7 @@ module _ {X : Type 0} where
       → length (entries 0 cells) ≡ length (entries 0 (slice_set cells k None)) + 1
   taken_count k cells h = count_by k _ cells refl h
 
-  none_by : (o : Option X) → is_some o ≡ false → o ≡ None
+  pub none_by : (o : Option X) → is_some o ≡ false → o ≡ None
   none_by None h = refl
   none_by (Some x) h = absurd (cc)
 

@@ -19,8 +19,8 @@ pub if_ok : {T E : Type 0} {P Q : T → Type 0} (r : Result T E) → ((x : T) �
 if_ok (Ok x) h p = h x p
 if_ok (Err e) h p = tt
 
-pub tied_as : (l l' : List ((ℕ × ℕ) × (ℕ × ℕ))) (s s' : ℕ × (ℕ × ℕ) → Option ℕ) (e e' f f' : List (((ℕ × ℕ) × ℕ) × ℕ))
-    → l' ≡ l → ((k : ℕ × (ℕ × ℕ)) → s' k ≡ s k) → e' ≡ e → f' ≡ f → LinksAreTied l s e f → LinksAreTied l' s' e' f'
+pub tied_as : (l l' : List ((ℕ × ℕ) × (ℕ × ℕ))) (s s' : ℕ × (ℕ × ℕ) → Option ℕ) (e e' f f' : ℕ × ℕ → List (ℕ × ℕ))
+    → l' ≡ l → ((k : ℕ × (ℕ × ℕ)) → s' k ≡ s k) → ((k : ℕ × ℕ) → e' k ≡ e k) → ((k : ℕ × ℕ) → f' k ≡ f k) → LinksAreTied l s e f → LinksAreTied l' s' e' f'
 tied_as l l' s s' e e' f f' p q r u t =
-    subst (λ x. LinksAreTied x s' e' f') (sym p) (subst (λ x. LinksAreTied l x e' f') (λ i k. sym (q k) i) (subst (λ x. LinksAreTied l s x f') (sym r)
-    (subst (λ x. LinksAreTied l s e x) (sym u) t)))
+    subst (λ x. LinksAreTied x s' e' f') (sym p) (subst (λ x. LinksAreTied l x e' f') (λ i k. sym (q k) i)
+    (subst (λ x. LinksAreTied l s x f') (λ i k. sym (r k) i) (subst (λ x. LinksAreTied l s e x) (λ i k. sym (u k) i) t)))

@@ -1,13 +1,13 @@
 -- A part of some entries, by the numbers in their keys.
-use Rattle.std.proofs.Common.{◌≡◌, ℕ, ◌≤◌, not, Bool, true, false, cond, ◌&&◌, List, [], ◌∷◌, map, Option, Some, None, refl, sym, ap}
-use Rattle.std.proofs.Common.{◌∙◌, Ordering, Less, Equal, Greater, is_eq, arith}
+use Rattle.std.proofs.Common.{◌≡◌, ℕ, Bool, true, false, cond, ◌&&◌, List, [], ◌∷◌, map, Option, Some, None, refl, sym, ap}
+use Rattle.std.proofs.Common.{◌∙◌, Ordering, Less, is_eq}
 use Rattle.std.specs.BTreeMap.{is_at}
 use Rattle.std.specs.Cmp.{IsTotalOrder}
 use Rattle.std.specs.List.{AllByRecursion, filter}
 use Rattle.std.specs.List.Sorted.{IsStrictlySortedBy}
 use Rattle.std.specs.Map.{keys_of, lookup}
 use Rattle.std.specs.Option.{option_and_then}
-use Rattle.std.specs.Ordering.{is_le, is_lt, nat_cmp, ordering_then}
+use Rattle.std.specs.Ordering.{nat_cmp}
 use Rattle.std.proofs.lemmas.Map.Lookups.{CmpEqualImpliesEq}
 use Rattle.object_state.proofs.Keyed.{equal}
 use Rattle.object_store.proofs.Listed.{none_below}
@@ -63,15 +63,3 @@ module _ {K V W : Type 0} {R : K → K → Ordering} (o : IsTotalOrder R) (exact
         by rest true true y z = rw (y, z) (all_selected e.0 y es s.0, rest)
         by rest true false y z = rw (y, z) rest
         by rest false c y z = rw y rest
-
--- a range of numbers at one group
-not_above : (n m : ℕ) → n ≤ m → is_lt (nat_cmp m n) ≡ false
-not_above n m h = grind arith
-
-from_zero : (n : ℕ) → is_le (nat_cmp 0 n) ≡ true
-from_zero n = grind arith
-
-pub in_range : (r : Ordering) (n m : ℕ) → n ≤ m → (is_le (ordering_then r (nat_cmp 0 n)) && not (is_lt (ordering_then r (nat_cmp m n)))) ≡ is_eq r
-in_range Less n m h = refl
-in_range Equal n m h = λ i. from_zero n i && not (not_above n m h i)
-in_range Greater n m h = refl

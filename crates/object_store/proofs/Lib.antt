@@ -14,3 +14,4 @@ pub mod Carried
 mod Cells
 mod Pages
 mod PairRows
+mod Rows

@@ -3,7 +3,7 @@ use Rattle.std.proofs.Common.{◌≡◌, ℕ, zero, suc, ◌+◌, ◌<◌, ◌�
 use Rattle.std.specs.BTreeMap.{insert_entry, is_at}
 use Rattle.std.specs.Cmp.{nat_cmp_is}
 use Rattle.std.specs.List.{filter}
-use Rattle.std.specs.Map.{keys_of, lookup, remove_entry}
+use Rattle.std.specs.Map.{keys_of, lookup, remove_entry, set_value}
 use Rattle.std.specs.Option.{is_some}
 use Rattle.std.proofs.lemmas.Bool.{eq-eqb, eqb-true}
 use Rattle.object_state.specs.State.{link_cmp}
@@ -187,6 +187,50 @@ module _ {X : Type 0} where
   take_none a b (e ∷ es) h = by_test (is_at (link_cmp (a, b)) e.0)
       (λ y. absurd (true≢false (sym (rw y refl) ∙ h)))
       (λ z. rw z (ap (λ l. e ∷ l) (take_none a b es (sym (rw z refl) ∙ h))))
+
+  -- another value of an entry
+  kept_row : (n a b : ℕ) (v : X) (es : List (ℕ × X)) (rest : List ((ℕ × ℕ) × X)) → a < n → set_value (is_at (link_cmp (a, b))) rest v ≡ rest
+      → set_value (is_at (link_cmp (a, b))) (with_first n es ++ rest) v ≡ with_first n es ++ rest
+  kept_row n a b v [] rest h f = f
+  kept_row n a b v (e ∷ es) rest h f = rw (less a n h) (ap (λ l. ((n, e.0), e.1) ∷ l) (kept_row n a b v es rest h f))
+
+  kept_before : (n a b : ℕ) (v : X) (rows : List (List (ℕ × X))) → a < n → set_value (is_at (link_cmp (a, b))) (pairs n rows) v ≡ pairs n rows
+  kept_before n a b v [] h = refl
+  kept_before n a b v (row ∷ rows) h = kept_row n a b v row (pairs (n + 1) rows) h (kept_before (n + 1) a b v rows (omega (arith, h)))
+
+  set_row : (a b : ℕ) (v : X) (es : List (ℕ × X)) (rest : List ((ℕ × ℕ) × X)) → set_value (is_at (link_cmp (a, b))) rest v ≡ rest
+      → set_value (is_at (link_cmp (a, b))) (with_first a es ++ rest) v ≡ with_first a (set_value (is_at (nat_cmp b)) es v) ++ rest
+  set_row a b v [] rest h = h
+  set_row a b v (e ∷ es) rest h = by (nat_cmp b e.0) refl (set_row a b v es rest h)
+    where
+      by : (r : Ordering) → nat_cmp b e.0 ≡ r
+          → set_value (is_at (link_cmp (a, b))) (with_first a es ++ rest) v ≡ with_first a (set_value (is_at (nat_cmp b)) es v) ++ rest
+          → set_value (is_at (link_cmp (a, b))) (with_first a (e ∷ es) ++ rest) v
+          ≡ with_first a (set_value (is_at (nat_cmp b)) (e ∷ es) v) ++ rest
+      by Less x more = rw (equal a a refl, x) (ap (λ l. ((a, e.0), e.1) ∷ l) more)
+      by Equal x more = rw (equal a a refl, x) refl
+      by Greater x more = rw (equal a a refl, x) (ap (λ l. ((a, e.0), e.1) ∷ l) more)
+
+  set_past : (n a b : ℕ) (v : X) (es : List (ℕ × X)) (rest : List ((ℕ × ℕ) × X)) → n < a
+      → set_value (is_at (link_cmp (a, b))) (with_first n es ++ rest) v ≡ with_first n es ++ set_value (is_at (link_cmp (a, b))) rest v
+  set_past n a b v [] rest h = refl
+  set_past n a b v (e ∷ es) rest h = rw (greater a n h) (ap (λ l. ((n, e.0), e.1) ∷ l) (set_past n a b v es rest h))
+
+  set_from : (n k a b : ℕ) (v : X) (rows : List (List (ℕ × X))) → a ≡ n + k → k < length rows → set_value (is_at (link_cmp (a, b))) (pairs n rows) v
+      ≡ pairs n (slice_set rows k (set_value (is_at (nat_cmp b)) (unwrap_or (slice_get rows k) []) v))
+  set_from n k a b v [] e h = absurd (omega (arith, h))
+  set_from n zero a b v (row ∷ rows) e h =
+      let z : a ≡ n = omega (arith, e) in
+      ap (λ (x : ℕ). set_value (is_at (link_cmp (x, b))) (pairs n (row ∷ rows)) v) z
+      ∙ set_row n b v row (pairs (n + 1) rows) (kept_before (n + 1) n b v rows (omega arith))
+  set_from n (suc k) a b v (row ∷ rows) e h =
+      set_past n a b v row (pairs (n + 1) rows) (omega (arith, e)) ∙ ap (λ l. with_first n row ++ l) (set_from (n + 1) k a b v rows (omega (arith, e)) (omega (arith, h)))
+
+  pub set_in : (a b : ℕ) (v : X) (rows : List (List (ℕ × X))) (row : List (ℕ × X)) → a < length rows → slice_get rows a ≡ Some row
+      → pairs 0 (slice_set rows a (set_value (is_at (nat_cmp b)) row v)) ≡ set_value (is_at (link_cmp (a, b))) (pairs 0 rows) v
+  set_in a b v rows row h e =
+      sym (set_from 0 a a b v rows (omega arith) h
+      ∙ ap (λ o. pairs 0 (slice_set rows a (set_value (is_at (nat_cmp b)) (unwrap_or o []) v))) e)
 
   -- the entries of one row
   of_row : (a : ℕ) (es : List (ℕ × X)) (rest : List ((ℕ × ℕ) × X)) → filter (λ (e : (ℕ × ℕ) × X). nat_eq e.0.0 a) rest ≡ []

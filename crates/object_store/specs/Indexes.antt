@@ -1,6 +1,5 @@
 -- What indexes must agree with, by look-ups.
 use Rattle.std.specs.Prelude.{◌≡◌, ◌↔◌, ◌<◌, ◌^◌, ℕ, Bool, false, ◌&&◌, if◌then◌else◌, nat_eq, List, Option, Some, map, filter}
-use Rattle.std.specs.declared.cmp.Ordering.{Ordering}
 use Rattle.std.specs.BTreeMap.{is_at}
 use Rattle.std.specs.HashMap.{HashMap, get}
 use Rattle.std.specs.Cmp.Lexicographic.{pointwise}
@@ -8,7 +7,7 @@ use Rattle.std.specs.List.{find, list_any}
 use Rattle.std.specs.List.Sorted.{IsStrictlySortedBy}
 use Rattle.std.specs.Map.{keys_of, lookup}
 use Rattle.std.specs.Option.{option_map, option_map_or}
-use Rattle.std.specs.Ordering.{nat_cmp, ordering_then}
+use Rattle.std.specs.Ordering.{nat_cmp}
 use Rattle.class_model.specs.declared.numbers.End.{End}
 use Rattle.class_model.specs.declared.numbers.End.TheVariants.{First, Second}
 use Rattle.class_model.specs.Ends.{opposite}
@@ -18,7 +17,7 @@ use Rattle.object_state.specs.Layouts.{is_a}
 use Rattle.object_state.specs.Looks.{end_of, has_at}
 use Rattle.object_state.specs.State.{link_cmp}
 
--- an association and the pair that it links, and the same of an association, an object and a stamp
+-- the same association and the same objects
 abbrev pub same_pair : ℕ × (ℕ × ℕ) → ℕ × (ℕ × ℕ) → Bool
 same_pair a b = nat_eq a.0 b.0 && (nat_eq a.1.0 b.1.0 && nat_eq a.1.1 b.1.1)
 
@@ -26,32 +25,31 @@ same_pair a b = nat_eq a.0 b.0 && (nat_eq a.1.0 b.1.0 && nat_eq a.1.1 b.1.1)
 abbrev pub stamp_at : {S : Type 0} → HashMap (ℕ × (ℕ × ℕ)) ℕ S → ℕ × (ℕ × ℕ) → Option ℕ
 stamp_at m k = get same_pair m k
 
-abbrev pub end_cmp : (ℕ × ℕ) × ℕ → (ℕ × ℕ) × ℕ → Ordering
-end_cmp a b = ordering_then (link_cmp a.0 b.0) (nat_cmp a.1 b.1)
-
--- an index has an entry for each entry of a list, and no other
-abbrev pub Indexes : {K X J Y : Type 0} → (K → K → Ordering) → (J → J → Ordering) → (K × X → J × Y) → List (K × X) → List (J × Y) → Type 0
-Indexes {K} {X} R S entry es is = (e : K × X) → (lookup (is_at (S (entry e).0)) is ≡ Some (entry e).1) ↔ (lookup (is_at (R e.0)) es ≡ Some e.1)
-
--- the pair of a link; its ends, each by the other
+-- the association and the pair of a link
 abbrev pub by_pair : (ℕ × ℕ) × (ℕ × ℕ) → ℕ × (ℕ × ℕ)
 by_pair e = (e.0.0, e.1)
 
-abbrev pub by_first : (ℕ × ℕ) × (ℕ × ℕ) → ((ℕ × ℕ) × ℕ) × ℕ
-by_first e = (((e.0.0, e.1.0), e.0.1), e.1.1)
+-- rows by associations and objects, with another row of one of them
+abbrev pub with_row : (ℕ × ℕ → List (ℕ × ℕ)) → ℕ × ℕ → List (ℕ × ℕ) → ℕ × ℕ → List (ℕ × ℕ)
+with_row rows k row q = if is_at (link_cmp k) q then row else rows q
 
-abbrev pub by_second : (ℕ × ℕ) × (ℕ × ℕ) → ((ℕ × ℕ) × ℕ) × ℕ
-by_second e = (((e.0.0, e.1.1), e.0.1), e.1.0)
+-- each row is in the order of stamps
+abbrev pub RowsAreOrdered : (ℕ × ℕ → List (ℕ × ℕ)) → Type 0
+RowsAreOrdered rows = (k : ℕ × ℕ) → IsStrictlySortedBy nat_cmp (keys_of (rows k))
 
--- links, with the stamps of pairs and the objects at both ends
-pub record LinksAreTied (links : List ((ℕ × ℕ) × (ℕ × ℕ))) (stamps : ℕ × (ℕ × ℕ) → Option ℕ) (seconds firsts : List (((ℕ × ℕ) × ℕ) × ℕ)) : Type 0 where
+-- a link stands in the row of its object at an end, with the object at the opposite end, and no other does
+abbrev pub RowsAreTied : End → List ((ℕ × ℕ) × (ℕ × ℕ)) → (ℕ × ℕ → List (ℕ × ℕ)) → Type 0
+RowsAreTied end links rows = (e : (ℕ × ℕ) × (ℕ × ℕ)) → (lookup (is_at (nat_cmp e.0.1)) (rows (e.0.0, end_of e.1 end)) ≡ Some (end_of e.1 (opposite end)))
+    ↔ (lookup (is_at (link_cmp e.0)) links ≡ Some e.1)
+
+-- links, with the stamps of pairs and the rows of both ends
+pub record LinksAreTied (links : List ((ℕ × ℕ) × (ℕ × ℕ))) (stamps : ℕ × (ℕ × ℕ) → Option ℕ) (seconds firsts : ℕ × ℕ → List (ℕ × ℕ)) : Type 0 where
   pub ordered : IsStrictlySortedBy link_cmp (keys_of links)
-  pub seconds_ordered : IsStrictlySortedBy end_cmp (keys_of seconds)
-  pub firsts_ordered : IsStrictlySortedBy end_cmp (keys_of firsts)
-  pub small : (k : ℕ × ℕ) (pair : ℕ × ℕ) → lookup (is_at (link_cmp k)) links ≡ Some pair → k.1 < 2 ^ 32
+  pub seconds_ordered : RowsAreOrdered seconds
+  pub firsts_ordered : RowsAreOrdered firsts
   pub stamps_tied : (e : (ℕ × ℕ) × (ℕ × ℕ)) → (stamps (by_pair e) ≡ Some e.0.1) ↔ (lookup (is_at (link_cmp e.0)) links ≡ Some e.1)
-  pub seconds_tied : Indexes link_cmp end_cmp by_first links seconds
-  pub firsts_tied : Indexes link_cmp end_cmp by_second links firsts
+  pub seconds_tied : RowsAreTied First links seconds
+  pub firsts_tied : RowsAreTied Second links firsts
 
 -- the pair with an object at an end, and another at the opposite one
 abbrev pub pair_at : End → ℕ → ℕ → ℕ × ℕ

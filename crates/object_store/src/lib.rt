@@ -1,6 +1,7 @@
 //! Object diagrams with indexes: a change costs the logarithm of what there is, a look its result.
 #![tactic(auto)]
 
+mod ends;
 mod entries;
 mod extents;
 mod link_table;
@@ -21,6 +22,3 @@ type LinkKey = (class_model::AssocNo, u32);
 
 /// An association and a pair that it links.
 type PairKey = (class_model::AssocNo, (ocl_values::ObjNo, ocl_values::ObjNo));
-
-/// An association, an object at one end of it, and a stamp.
-type EndKey = ((class_model::AssocNo, ocl_values::ObjNo), u32);

@@ -1,23 +1,22 @@
-ghost use Rattle.std.specs.Prelude.{◌≡◌, ◌<◌, ◌-◌, ◌^◌, [], ℕ, IfOk, OnOk, OnErr, None, Some, filter, length, map};
+ghost use Rattle.std.specs.Prelude.{◌≡◌, ◌<◌, ◌^◌, [], ℕ, IfOk, OnOk, OnErr, None, Some, filter, length, map};
 ghost use Rattle.std.specs.BTreeMap.{insert_entry, is_at};
-ghost use Rattle.std.specs.BTreeMap.Range.{entries_between};
 ghost use Rattle.std.specs.Map.{lookup, remove_entry, update};
+ghost use Rattle.std.specs.Ordering.{nat_cmp};
 ghost use Rattle.ocl_values.specs.declared.value.Value.TheVariants.{Obj};
 ghost use Rattle.object_state.specs.Looks.{has_at};
 ghost use Rattle.object_state.specs.State.{link_cmp};
-ghost use Rattle.std.specs.declared.ops.Bound.TheVariants.{Included};
-ghost use Rattle.object_store.specs.Indexes.{end_cmp, joined_in, pair_at, pairs_in, same_pair, stamp_at, stamp_in};
+ghost use Rattle.object_store.specs.Ends.{row_at};
+ghost use Rattle.object_store.specs.Indexes.{joined_in, pairs_in, same_pair, stamp_at, stamp_in, with_row};
 
-use crate::entries::{put, take};
+use crate::ends::{Ends, links_at, objects_at, put_end, take_end};
 use crate::pair_map::PairMap;
-use crate::{EndKey, LinkKey, PairKey};
+use crate::{LinkKey, PairKey};
 use class_model::{AssocNo, End};
 use object_state::LinkChange;
 use ocl_values::{ObjNo, Value};
 use std::alloc::{AllocError, Global};
-use std::collections::{BTreeMap, HashMap};
+use std::collections::HashMap;
 use std::marker::Model;
-use use_lists::Items;
 
 /// Links by association and stamp. Contracts see the list of them in that order.
 #[derive(Drop)]
@@ -27,21 +26,22 @@ pub(crate) struct LinkTable {
     count: usize,
     /// The stamp of each linked pair.
     stamps: HashMap<PairKey, u32>,
-    /// The second object of each link, by the first one.
-    seconds: BTreeMap<EndKey, ObjNo>,
-    /// The first object of each link, by the second one.
-    firsts: BTreeMap<EndKey, ObjNo>,
+    /// The second objects of the links of each first one.
+    seconds: Ends,
+    /// The first objects of the links of each second one.
+    firsts: Ends,
 }
 
 impl Model for LinkTable {
     ghost use Rattle.std.specs.Prelude.{◌≡◌, List, ℕ, length};
+    ghost use Rattle.object_store.specs.Ends.{row_at};
     ghost use Rattle.object_store.specs.Indexes.{LinksAreTied, stamp_at};
 
     ghost Value = { List ((ℕ × ℕ) × (ℕ × ℕ)) };
 
     ghost view = { λ t. t.links };
 
-    ghost invariant = { λ t. LinksAreTied t.links (stamp_at t.stamps) t.seconds.entries t.firsts.entries × (t.count ≡ length t.links) };
+    ghost invariant = { λ t. LinksAreTied t.links (stamp_at t.stamps) (row_at t.seconds) (row_at t.firsts) × (t.count ≡ length t.links) };
 }
 
 /// A link by its pair.
@@ -51,18 +51,18 @@ fn pair_key(link: &LinkChange) -> PairKey
     (link.assoc, (link.first, link.second))
 }
 
-/// A link by its first object.
-fn first_key(link: &LinkChange) -> EndKey
-    ensures { result ≡ ((link.now.assoc, link.now.first), link.now.stamp) }
+/// An association and the first object of a link of it.
+fn first_end(link: &LinkChange) -> (AssocNo, ObjNo)
+    ensures { result ≡ (link.now.assoc, link.now.first) }
 {
-    ((link.assoc, link.first), link.stamp)
+    (link.assoc, link.first)
 }
 
-/// A link by its second object.
-fn second_key(link: &LinkChange) -> EndKey
-    ensures { result ≡ ((link.now.assoc, link.now.second), link.now.stamp) }
+/// An association and the second object of a link of it.
+fn second_end(link: &LinkChange) -> (AssocNo, ObjNo)
+    ensures { result ≡ (link.now.assoc, link.now.second) }
 {
-    ((link.assoc, link.second), link.stamp)
+    (link.assoc, link.second)
 }
 
 /// Puts a stamp at a pair.
@@ -85,25 +85,26 @@ fn take_stamp(stamps: &mut HashMap<PairKey, u32>, pair: PairKey)
     stamps.remove(&pair);
 }
 
-/// Puts both ends of a link into their indexes, or neither.
+/// Puts both ends of a link into their rows, or neither.
 fn put_ends(
-    seconds: &mut BTreeMap<EndKey, ObjNo>,
-    firsts: &mut BTreeMap<EndKey, ObjNo>,
+    alloc: Global,
+    seconds: &mut Ends,
+    firsts: &mut Ends,
     link: &LinkChange,
 ) -> Result<(), AllocError>
-    requires { lookup (is_at (end_cmp ((link.now.assoc, link.now.first), link.now.stamp))) seconds.old.entries ≡ None }
-    ensures seconds { OnOk result (seconds.new.entries ≡ insert_entry end_cmp seconds.old.entries
-        ((link.now.assoc, link.now.first), link.now.stamp) link.now.second) }
-    ensures firsts { OnOk result (firsts.new.entries ≡ insert_entry end_cmp firsts.old.entries
-        ((link.now.assoc, link.now.second), link.now.stamp) link.now.first) }
-    ensures no_seconds { OnErr result (seconds.new.entries ≡ seconds.old.entries) }
-    ensures no_firsts { OnErr result (firsts.new.entries ≡ firsts.old.entries) }
+    requires { lookup (is_at (nat_cmp link.now.stamp)) (row_at seconds.old (link.now.assoc, link.now.first)) ≡ None }
+    ensures seconds { OnOk result ((k : ℕ × ℕ) → row_at seconds.new k ≡ with_row (row_at seconds.old) (link.now.assoc, link.now.first)
+        (insert_entry nat_cmp (row_at seconds.old (link.now.assoc, link.now.first)) link.now.stamp link.now.second) k) }
+    ensures firsts { OnOk result ((k : ℕ × ℕ) → row_at firsts.new k ≡ with_row (row_at firsts.old) (link.now.assoc, link.now.second)
+        (insert_entry nat_cmp (row_at firsts.old (link.now.assoc, link.now.second)) link.now.stamp link.now.first) k) }
+    ensures no_seconds { OnErr result ((k : ℕ × ℕ) → row_at seconds.new k ≡ row_at seconds.old k) }
+    ensures no_firsts { OnErr result ((k : ℕ × ℕ) → row_at firsts.new k ≡ row_at firsts.old k) }
 {
-    put(seconds, first_key(link), link.second)?;
-    match put(firsts, second_key(link), link.first) {
+    put_end(alloc, seconds, first_end(link), (link.stamp, link.second))?;
+    match put_end(alloc, firsts, second_end(link), (link.stamp, link.first)) {
         Ok(()) => Ok(()),
         Err(refused) => {
-            take(seconds, first_key(link));
+            take_end(seconds, first_end(link), link.stamp);
             Err(refused)
         }
     }
@@ -111,75 +112,31 @@ fn put_ends(
 
 /// Puts a link into all indexes, or into none.
 fn put_indexes(
+    alloc: Global,
     stamps: &mut HashMap<PairKey, u32>,
-    seconds: &mut BTreeMap<EndKey, ObjNo>,
-    firsts: &mut BTreeMap<EndKey, ObjNo>,
+    seconds: &mut Ends,
+    firsts: &mut Ends,
     link: &LinkChange,
 ) -> Result<(), AllocError>
     requires pair { stamp_at stamps.old (link.now.assoc, (link.now.first, link.now.second)) ≡ None }
-    requires end { lookup (is_at (end_cmp ((link.now.assoc, link.now.first), link.now.stamp))) seconds.old.entries ≡ None }
+    requires end { lookup (is_at (nat_cmp link.now.stamp)) (row_at seconds.old (link.now.assoc, link.now.first)) ≡ None }
     ensures stamps { OnOk result ((k : ℕ × (ℕ × ℕ)) → stamp_at stamps.new k
         ≡ update same_pair (stamp_at stamps.old) (link.now.assoc, (link.now.first, link.now.second)) (Some link.now.stamp) k) }
-    ensures seconds { OnOk result (seconds.new.entries ≡ insert_entry end_cmp seconds.old.entries
-        ((link.now.assoc, link.now.first), link.now.stamp) link.now.second) }
-    ensures firsts { OnOk result (firsts.new.entries ≡ insert_entry end_cmp firsts.old.entries
-        ((link.now.assoc, link.now.second), link.now.stamp) link.now.first) }
-    ensures small { OnOk result (link.now.stamp < 2 ^ 32) }
+    ensures seconds { OnOk result ((k : ℕ × ℕ) → row_at seconds.new k ≡ with_row (row_at seconds.old) (link.now.assoc, link.now.first)
+        (insert_entry nat_cmp (row_at seconds.old (link.now.assoc, link.now.first)) link.now.stamp link.now.second) k) }
+    ensures firsts { OnOk result ((k : ℕ × ℕ) → row_at firsts.new k ≡ with_row (row_at firsts.old) (link.now.assoc, link.now.second)
+        (insert_entry nat_cmp (row_at firsts.old (link.now.assoc, link.now.second)) link.now.stamp link.now.first) k) }
     ensures no_stamps { OnErr result ((k : ℕ × (ℕ × ℕ)) → stamp_at stamps.new k ≡ stamp_at stamps.old k) }
-    ensures no_seconds { OnErr result (seconds.new.entries ≡ seconds.old.entries) }
-    ensures no_firsts { OnErr result (firsts.new.entries ≡ firsts.old.entries) }
+    ensures no_seconds { OnErr result ((k : ℕ × ℕ) → row_at seconds.new k ≡ row_at seconds.old k) }
+    ensures no_firsts { OnErr result ((k : ℕ × ℕ) → row_at firsts.new k ≡ row_at firsts.old k) }
 {
     put_stamp(stamps, pair_key(link), link.stamp)?;
-    match put_ends(seconds, firsts, link) {
+    match put_ends(alloc, seconds, firsts, link) {
         Ok(()) => Ok(()),
         Err(refused) => {
             take_stamp(stamps, pair_key(link));
             Err(refused)
         }
-    }
-}
-
-/// The objects that an index of ends has at an association and an object, by stamps.
-fn objects_at(
-    alloc: Global,
-    index: &BTreeMap<EndKey, ObjNo>,
-    assoc: AssocNo,
-    object: ObjNo,
-) -> Result<Vec<Value>, AllocError>
-    ensures { IfOk result (λ v. v.items ≡ map (λ e. Obj e.1) (entries_between end_cmp (Included ((assoc, object), 0)) (Included ((assoc, object), 2 ^ 32 - 1))
-        index.now.entries)) }
-{
-    index
-        .range(((assoc, object), 0)..=((assoc, object), u32::MAX))
-        .map(|(_, found)| Value::Obj(*found))
-        .collect(alloc)
-}
-
-/// The links that an index of ends has at an association and an object, by stamps: of each its key, and
-/// the objects that it joins.
-fn links_at(
-    alloc: Global,
-    index: &BTreeMap<EndKey, ObjNo>,
-    assoc: AssocNo,
-    end: End,
-    object: ObjNo,
-) -> Result<Vec<(LinkKey, (ObjNo, ObjNo))>, AllocError>
-    ensures { IfOk result (λ v. v.items ≡ map (λ e. ((assoc, e.0.1), pair_at end object e.1)) (entries_between end_cmp (Included ((assoc, object), 0)) (Included ((assoc, object), 2 ^ 32 - 1))
-        index.now.entries)) }
-{
-    index
-        .range(((assoc, object), 0)..=((assoc, object), u32::MAX))
-        .map(|(key, found)| ((assoc, key.1), pair_at(end, object, *found)))
-        .collect(alloc)
-}
-
-/// The pair with an object at an end, and another at the opposite one.
-fn pair_at(end: End, object: ObjNo, other: ObjNo) -> (ObjNo, ObjNo)
-    ensures { result ≡ pair_at end object other }
-{
-    match end {
-        End::First => (object, other),
-        End::Second => (other, object),
     }
 }
 
@@ -191,8 +148,8 @@ impl LinkTable {
             links: PairMap::new(alloc),
             count: 0,
             stamps: HashMap::new(alloc),
-            seconds: BTreeMap::new(alloc),
-            firsts: BTreeMap::new(alloc),
+            seconds: PairMap::new(alloc),
+            firsts: PairMap::new(alloc),
         }
     }
 
@@ -263,7 +220,13 @@ impl LinkTable {
     {
         let pair = (link.first, link.second);
         self.links.insert(alloc, link.assoc, link.stamp, pair)?;
-        match put_indexes(&mut self.stamps, &mut self.seconds, &mut self.firsts, link) {
+        match put_indexes(
+            alloc,
+            &mut self.stamps,
+            &mut self.seconds,
+            &mut self.firsts,
+            link,
+        ) {
             Ok(()) => {
                 self.count += 1;
                 Ok(())
@@ -283,7 +246,7 @@ impl LinkTable {
         self.links.remove(link.assoc, link.stamp);
         self.count -= 1;
         take_stamp(&mut self.stamps, pair_key(link));
-        take(&mut self.seconds, first_key(link));
-        take(&mut self.firsts, second_key(link));
+        take_end(&mut self.seconds, first_end(link), link.stamp);
+        take_end(&mut self.firsts, second_end(link), link.stamp);
     }
 }

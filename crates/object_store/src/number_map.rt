@@ -166,6 +166,19 @@ fn fill<V: Drop>(
     Ok(())
 }
 
+/// Puts another value into a cell of a page that has one, and gives that one.
+fn replace_at<V: Drop>(page: &mut Option<Page<V>>, cell: usize, value: V) -> V
+    requires within { cell < 64 }
+    requires there { is_some (cell_in (slice_get (page_cells page.old) cell)) ≡ true }
+    ensures cells { page_cells page.new ≡ slice_set (page_cells page.old) cell (Some value) }
+    ensures held { cell_in (slice_get (page_cells page.old) cell) ≡ Some result }
+{
+    match page {
+        Some(page) => page.replace(cell, value),
+        None => unreachable!(),
+    }
+}
+
 /// Clears a cell of a page, and tells whether no value is left in it.
 fn clear_cell<V: Drop>(page: &mut Option<Page<V>>, cell: usize) -> bool
     requires { cell < 64 }
@@ -241,9 +254,20 @@ impl<V: Drop> NumberMap<V> {
         Ok(())
     }
 
+    /// Puts another value at a number that has one, and gives that one.
+    pub(crate) fn replace(&mut self, number: u32, value: V) -> V
+        requires { is_some (lookup (is_at (nat_cmp number)) self.old) ≡ true }
+        ensures map { self.new ≡ set_value (is_at (nat_cmp number)) self.old value }
+        ensures held { lookup (is_at (nat_cmp number)) self.old ≡ Some result }
+    {
+        let (page, cell) = place(number);
+        replace_at(&mut self.pages[page], cell, value)
+    }
+
     /// Takes the value of a number out, if it has one.
     pub(crate) fn remove(&mut self, number: u32)
-        ensures { self.new ≡ remove_entry (is_at (nat_cmp number)) self.old }
+        ensures map { self.new ≡ remove_entry (is_at (nat_cmp number)) self.old }
+        ensures gone { lookup (is_at (nat_cmp number)) self.new ≡ None }
     {
         let (page, cell) = place(number);
         if self.has(number) {

@@ -11,6 +11,7 @@ use object_state::{Layout, Object, set_slot};
 use ocl_values::Value;
 use std::alloc::{AllocError, Global};
 use std::marker::Model;
+use std::mem;
 
 /// How many cells a page has.
 pub(crate) const PAGE: usize = 64;
@@ -34,6 +35,18 @@ impl<V> Model for Page<V> {
     ghost view = { λ p. p.cells.items };
 
     ghost invariant = { λ p. IsPage p.cells.items p.count };
+}
+
+/// Puts another value into a cell that has one, and gives that one.
+fn replace_in<V: Drop>(cell: &mut Option<V>, value: V) -> V
+    requires { is_some cell.old ≡ true }
+    ensures new { cell.new ≡ Some value }
+    ensures held { cell.old ≡ Some result }
+{
+    match cell {
+        Some(held) => mem::replace(held, value),
+        None => unreachable!(),
+    }
 }
 
 /// Cells without values.
@@ -81,6 +94,16 @@ impl<V: Drop> Page<V> {
     {
         self.cells[cell] = Some(value);
         self.count += 1;
+    }
+
+    /// Puts another value into a cell that has one, and gives that one.
+    pub(crate) fn replace(&mut self, cell: usize, value: V) -> V
+        requires within { cell < 64 }
+        requires there { is_some (cell_in (slice_get self.old cell)) ≡ true }
+        ensures cells { self.new ≡ slice_set self.old cell (Some value) }
+        ensures held { cell_in (slice_get self.old cell) ≡ Some result }
+    {
+        replace_in(&mut self.cells[cell], value)
     }
 
     fn has(&self, cell: usize) -> bool

@@ -1,6 +1,6 @@
-ghost use Rattle.std.specs.Prelude.{◌≡◌, ◌<◌, [], filter, IfOk, OnOk, OnErr, None, is_some, length, map, nat_eq};
+ghost use Rattle.std.specs.Prelude.{◌≡◌, ◌<◌, [], filter, IfOk, OnOk, OnErr, None, Some, is_some, length, map, nat_eq, true};
 ghost use Rattle.std.specs.BTreeMap.{insert_entry, is_at};
-ghost use Rattle.std.specs.Map.{lookup, remove_entry};
+ghost use Rattle.std.specs.Map.{lookup, remove_entry, set_value};
 ghost use Rattle.std.specs.Option.{option_copied};
 ghost use Rattle.object_state.specs.State.{link_cmp};
 ghost use Rattle.object_store.specs.Pairs.{pairs};
@@ -62,7 +62,7 @@ impl<V: Drop> PairMap<V> {
         }
     }
 
-    fn has(&self, first: u32, second: u32) -> bool
+    pub(crate) fn has(&self, first: u32, second: u32) -> bool
         ensures { result ≡ is_some (lookup (is_at (link_cmp (first, second))) self.now) }
     {
         self.get(first, second).is_some()
@@ -96,9 +96,19 @@ impl<V: Drop> PairMap<V> {
         Ok(())
     }
 
+    /// Puts another value at two numbers that have one, and gives that one.
+    pub(crate) fn replace(&mut self, first: u32, second: u32, value: V) -> V
+        requires { is_some (lookup (is_at (link_cmp (first, second))) self.old) ≡ true }
+        ensures map { self.new ≡ set_value (is_at (link_cmp (first, second))) self.old value }
+        ensures held { lookup (is_at (link_cmp (first, second))) self.old ≡ Some result }
+    {
+        self.rows[first as usize].replace(second, value)
+    }
+
     /// Takes the value of two numbers out, if they have one.
     pub(crate) fn remove(&mut self, first: u32, second: u32)
-        ensures { self.new ≡ remove_entry (is_at (link_cmp (first, second))) self.old }
+        ensures map { self.new ≡ remove_entry (is_at (link_cmp (first, second))) self.old }
+        ensures gone { lookup (is_at (link_cmp (first, second))) self.new ≡ None }
     {
         if self.has(first, second) {
             self.rows[first as usize].remove(second);

@@ -7,7 +7,7 @@ use Rattle.object_store.proofs.extents.take_one.Goals as goal
 
 pub returns-clause-ordered : goal.returns-clause-ordered
 returns-clause-ordered c =
-    rw c.remove.ensures (sorted_remove link_total (is_at (link_cmp (c.args.class, c.args.object))) c.args.extents.now c.requires)
+    rw c.remove.ensures.map (sorted_remove link_total (is_at (link_cmp (c.args.class, c.args.object))) c.args.extents.now c.requires)
 
 pub returns-clause-taken : goal.returns-clause-taken
-returns-clause-taken c = rw c.remove.ensures (mark_taken c.args.extents.now (c.args.class, c.args.object) c.requires)
+returns-clause-taken c = rw c.remove.ensures.map (mark_taken c.args.extents.now (c.args.class, c.args.object) c.requires)

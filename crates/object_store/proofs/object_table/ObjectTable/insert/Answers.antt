@@ -33,7 +33,7 @@ invariant_of-self-in-Err c =
     (keys_of c.put_indexes.new.extents) (keys_of c.put_indexes.new.extents)
     (restored nat_cmp_total c.self.inside.objects c.insert.new.self c.remove.new.self c.args.new.now.object c.args.new.now.object
     c.args.new.now.object c.in_ok-object.object refl refl
-    (ap (λ (t : Objects). object_in t.objects c.args.new.now.object) c.self.view_is ∙ c.requires.free) c.in_ok-insert.ensures.ok c.remove.ensures)
+    (ap (λ (t : Objects). object_in t.objects c.args.new.now.object) c.self.view_is ∙ c.requires.free) c.in_ok-insert.ensures.ok c.remove.ensures.map)
     c.in-Err.ensures.no_name refl
     (object_same c.self.inside.layout c.self.inside.objects (get_by_text c.self.inside.names) (keys_of c.self.inside.extents) c.self.invariant
     (keys_of c.put_indexes.new.extents) c.in-Err.ensures.ordered c.args.new.now c.in-Err.ensures.others c.in-Err.ensures.gone
@@ -45,5 +45,5 @@ returns-in-Err-clause-err c =
       layout = c.self.inside.layout;
       objects = restored nat_cmp_total c.self.inside.objects c.insert.new.self c.remove.new.self c.args.new.now.object
           c.args.new.now.object c.args.new.now.object c.in_ok-object.object refl refl
-          (ap (λ (t : Objects). object_in t.objects c.args.new.now.object) c.self.view_is ∙ c.requires.free) c.in_ok-insert.ensures.ok c.remove.ensures i;
+          (ap (λ (t : Objects). object_in t.objects c.args.new.now.object) c.self.view_is ∙ c.requires.free) c.in_ok-insert.ensures.ok c.remove.ensures.map i;
     }) ∙ c.self.view_is

@@ -11,7 +11,7 @@ use Rattle.object_store.proofs.object_table.ObjectTable.remove.Goals as goal
 pub invariant_of-self : goal.invariant_of-self
 invariant_of-self c =
     tied_with c.self.inside.layout _ c.remove.new.self _ (get_by_text c.take_name.new.numbers) (keys_of c.take_extents.new.extents) (keys_of c.take_extents.new.extents)
-    c.remove.ensures
+    c.remove.ensures.map
     (λ n. refl) refl
     (object_less c.self.inside.layout c.self.inside.objects (get_by_text c.self.inside.names) (keys_of c.self.inside.extents) c.self.invariant
     (keys_of c.take_extents.new.extents) c.take_extents.ensures.ordered c.args.old.now
