@@ -1,4 +1,4 @@
-mod Fuel
+pub mod Fuel
 mod Passing
 mod Rows
 mod HeldMade

@@ -7,7 +7,7 @@ use use_text::Place;
 
 /// What stands behind an expression and makes a larger one of both.
 #[derive(Drop)]
-pub(crate) enum Behind<'a> {
+pub enum Behind<'a> {
     /// An operator and the operand on its right.
     Operator(NodeRef<'a>, NodeRef<'a>),
     /// A dot or an arrow.
@@ -16,7 +16,7 @@ pub(crate) enum Behind<'a> {
 
 /// What is read as one expression.
 #[derive(Drop)]
-pub(crate) enum Piece<'a> {
+pub enum Piece<'a> {
     /// A node.
     Node(NodeRef<'a>),
     /// A node, and what stands behind it from left to right.
@@ -28,7 +28,7 @@ pub(crate) enum Piece<'a> {
 
 /// An argument without the expressions in it; the flag says that there is a start.
 #[derive(Drop)]
-pub(crate) enum ArgumentHead {
+pub enum ArgumentHead {
     Item(Option<TypeDecl>, bool),
     Accumulator(Option<TypeDecl>, bool),
     Body,
@@ -36,14 +36,14 @@ pub(crate) enum ArgumentHead {
 
 /// A part of a collection literal without the expressions in it.
 #[derive(Clone, Copy)]
-pub(crate) enum PartHead {
+pub enum PartHead {
     One,
     Range(Place),
 }
 
 /// A form of expression without the expressions in it.
 #[derive(Drop)]
-pub(crate) enum Head {
+pub enum Head {
     /// A node that lacks a part; none in a tree that was read does.
     Lacking,
     /// The one expression that stands in it.
@@ -63,14 +63,14 @@ pub(crate) enum Head {
 
 /// A form and what is read as the expressions in it, from left to right.
 #[derive(Drop)]
-pub(crate) struct Layer<'a> {
+pub struct Layer<'a> {
     pub head: Head,
     pub inner: Items<Piece<'a>>,
 }
 
 /// Arguments without the expressions in them, and what is read as those.
 #[derive(Drop)]
-pub(crate) struct ArgumentLayer<'a> {
+pub struct ArgumentLayer<'a> {
     pub heads: Option<Items<ArgumentHead>>,
     pub inner: Items<Piece<'a>>,
 }

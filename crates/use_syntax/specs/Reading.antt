@@ -78,7 +78,13 @@ Reads given text (Ok p) = (given ≡ parsed p.tokens (root_tree p.tree)) × (p.t
 Reads given text (Err Memory) = ⊤
 Reads given text (Err (Refused r)) = given ≡ refused r
 
--- the same, without the text
+-- the answer of a lexer: the tokens, or their refusal
+abbrev pub ReadsTokens : Tokens → Result (List Token) SyntaxFault → Type 0
+ReadsTokens given (Ok ts) = given ≡ Ok ts
+ReadsTokens given (Err Memory) = ⊤
+ReadsTokens given (Err (Refused r)) = given ≡ Err r
+
+-- the answer of a reader without the text
 abbrev pub ReadsTree : Reading → Result TokenTree SyntaxFault → Type 0
 ReadsTree given (Ok p) = given ≡ parsed p.tokens (root_tree p.tree)
 ReadsTree given (Err Memory) = ⊤

@@ -1,7 +1,8 @@
 ghost use Rattle.std.specs.Prelude.{◌≡◌, ◌+◌, ◌≤◌, All, IfOk, length};
-ghost use Rattle.use_text.specs.Tokens.{IsWithin};
+ghost use Rattle.use_text.specs.Tokens.{IsWithin, tokens};
 ghost use Rattle.use_syntax.specs.Language.{language};
-ghost use Rattle.use_syntax.specs.Reading.{max_line, max_text, place_in, read, read_command, read_model, read_tokens, ReadsTree};
+ghost use Rattle.use_syntax.specs.Reading.{max_line, max_text, place_in, read, read_command, read_model, read_tokens, ReadsTokens, ReadsTree};
+ghost use Rattle.use_syntax.specs.declared.rule.Rule.TheVariants as r;
 ghost use Rattle.use_syntax.specs.Numbers.{number_of_rule};
 
 use crate::{Rule, SyntaxFault, TokenTree};
@@ -76,6 +77,32 @@ impl Reader {
         }
     }
 
+    /// The tokens of a text, in the lists of what was read before. Its first line has this number.
+    pub fn lex(&mut self, text: &[u8], first_line: u32) -> Result<Tokens, SyntaxFault>
+        requires text { length text.now ≤ max_text }
+        requires line { first_line ≤ max_line }
+        ensures tokens { ReadsTokens (tokens first_line text.now) result }
+        ensures within { IfOk result (All (IsWithin (length text.now))) }
+        ensures few { IfOk result (λ tokens. length tokens ≤ max_text + 1) }
+    {
+        let room = mem::replace(&mut self.tokens, Items::new(self.alloc));
+        match lex_into(room, text, first_line) {
+            Ok(tokens) => Ok(tokens),
+            Err(LexFault::Memory) => Err(SyntaxFault::Memory),
+            Err(LexFault::Bad(refusal)) => Err(SyntaxFault::Refused(refusal)),
+        }
+    }
+
+    /// Reads the tokens of a command.
+    pub fn read_lexed(&mut self, g: &Grammar, tokens: Tokens) -> Result<TokenTree, SyntaxFault>
+        requires table { g.now ≡ language }
+        requires few { length tokens ≤ max_text + 1 }
+        ensures reading { ReadsTree (read_tokens (number_of_rule r.Command) tokens) result }
+        ensures same { IfOk result (λ p. p.tokens ≡ tokens) }
+    {
+        read_tokens(&mut self.parser, &mut self.tokens, g, Rule::Command, tokens)
+    }
+
     /// Reads a text as a rule.
     pub(crate) fn read(
         &mut self,
@@ -90,12 +117,8 @@ impl Reader {
         ensures reading { ReadsTree (read (number_of_rule start) first_line text.now) result }
         ensures within { IfOk result (λ p. All (IsWithin (length text.now)) p.tokens) }
     {
-        let room = mem::replace(&mut self.tokens, Items::new(self.alloc));
-        match lex_into(room, text, first_line) {
-            Ok(tokens) => read_tokens(&mut self.parser, &mut self.tokens, g, start, tokens),
-            Err(LexFault::Memory) => Err(SyntaxFault::Memory),
-            Err(LexFault::Bad(refusal)) => Err(SyntaxFault::Refused(refusal)),
-        }
+        let tokens = self.lex(text, first_line)?;
+        read_tokens(&mut self.parser, &mut self.tokens, g, start, tokens)
     }
 
     /// Reads the text of a model, as the function `read_model`.
@@ -128,6 +151,11 @@ impl Reader {
     pub fn take_back(&mut self, read: TokenTree) {
         let TokenTree { tree, tokens } = read;
         self.parser.take_back(tree);
+        self.tokens = tokens;
+    }
+
+    /// Takes back a list of tokens that is needed no more, for the next text.
+    pub fn take_back_tokens(&mut self, tokens: Tokens) {
         self.tokens = tokens;
     }
 }
