@@ -1,11 +1,11 @@
 -- What names stand for, list by list.
-use Rattle.std.proofs.Common.{◌≡◌, ℕ, ◌+◌, ◌<◌, Bool, true, false, cond, List, [], ◌∷◌, ◌++◌, length, get_or, take, map, codes, nat_cmp, string_bytes, Option, Some, None, refl, sym, ap, ◌∙◌}
-use Rattle.std.specs.BTreeMap.{BTreeMap, IsEmpty, get_by_text, is_at}
-use Rattle.std.specs.Cmp.Lexicographic.{slice_cmp}
+use Rattle.std.proofs.Common.{◌≡◌, ℕ, ◌+◌, ◌<◌, Bool, true, false, cond, List, [], ◌∷◌, ◌++◌, length, get_or, take, map, codes, string_bytes, Option, Some, None, refl, sym, ap, ◌∙◌}
+use Rattle.std.specs.HashMap.{HashMap, IsEmpty, get_by_text}
 use Rattle.std.specs.declared.string.String.{String}
 use Rattle.std.specs.List.{enumerate_from}
 use Rattle.std.specs.Map.{lookup}
 use Rattle.std.specs.Option.{option_or}
+use Rattle.std.specs.Str.{bytes_eq}
 use Rattle.class_decls.specs.Texts.{same_text}
 use Rattle.class_model.specs.declared.types.OclType.{OclType}
 use Rattle.class_model.specs.declared.types.OclType.TheVariants as T
@@ -55,8 +55,8 @@ pub plain_is : (o : Option OclType) (t : List ℕ) →
 plain_is o t = chain o (same_text (codes "Boolean") t) (same_text (codes "Integer") t) (same_text (codes "String") t) (same_text (codes "OclAny") t)
     (same_text (codes "OclVoid") t) T.Bool T.Int T.Str T.Any T.Void
 
-pub empty_none : {A V : Type 0} (m : BTreeMap (String A) V) → IsEmpty m → (t : List ℕ) → get_by_text m t ≡ None
-empty_none m e t = ap (lookup (is_at (λ k. slice_cmp nat_cmp t (string_bytes k)))) e
+pub empty_none : {A V S : Type 0} (m : HashMap (String A) V S) → IsEmpty m → (t : List ℕ) → get_by_text m t ≡ None
+empty_none m e t = ap (lookup (λ k. bytes_eq t (string_bytes k))) e
 
 pub names_joined : {V : Type 0} (test : List ℕ → Bool) (p e c : List (List ℕ × V)) →
     option_or (option_or (option_or None (lookup test p)) (lookup test e)) (lookup test c) ≡ lookup test ((p ++ e) ++ c)

@@ -1,5 +1,5 @@
 ghost use Rattle.std.specs.Prelude.{◌≡◌, ◌≤◌, ◌^◌, List, ℕ, IfOk, OnOk, Some, None, length, map, unwrap_or};
-ghost use Rattle.std.specs.BTreeMap.{get_by_text};
+ghost use Rattle.std.specs.HashMap.{get_by_text};
 ghost use Rattle.std.specs.List.{position_from};
 ghost use Rattle.std.specs.Map.{lookup};
 ghost use Rattle.std.specs.Option.{option_or};
@@ -12,7 +12,7 @@ ghost use Rattle.class_builder.specs.Tables.{type_in};
 use class_decls::{ClassDecl, EnumDecl, TypeDecl};
 use class_model::{ByName, ClassNo, Kind, OclType, add_first};
 use std::alloc::{AllocError, Global};
-use std::collections::BTreeMap;
+use std::collections::HashMap;
 use use_lists::Boxed;
 
 /// What the names of types stand for.
@@ -76,7 +76,7 @@ pub(crate) fn type_names(
     requires classes { length classes.now ≤ 2 ^ 32 }
     ensures { IfOk result (λ names. (t : List ℕ) → get_by_text names t ≡ named_in enums.now (map (λ c. c.now) classes.now) t) }
 {
-    let mut names = BTreeMap::new(alloc);
+    let mut names = HashMap::new(alloc);
     add_plain_types(alloc, &mut names)?;
     add_enums(alloc, enums, &mut names)?;
     add_classes(alloc, classes, &mut names)?;
@@ -125,7 +125,7 @@ pub(crate) fn class_numbers(
     requires { length classes.now ≤ 2 ^ 32 }
     ensures { IfOk result (λ m. (t : List ℕ) → get_by_text m t ≡ position_from (λ d. same_text d.now.name.text t) 0 classes.now) }
 {
-    let mut map = BTreeMap::new(alloc);
+    let mut map = HashMap::new(alloc);
     'classes: for (i, class) in classes.iter().enumerate() {
         add_first(alloc, &mut map, class.name.text.as_str(), i as u32)?;
     }

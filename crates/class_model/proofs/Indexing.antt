@@ -1,6 +1,6 @@
 -- What a class has, as the table of what it inherits from tells it.
 use Rattle.std.proofs.Common.{◌≡◌, ◌<◌, ◌&&◌, ℕ, Bool, List, Some, sym, ap, ◌∙◌, length, subst, arith, filter, true, ◌≤◌}
-use Rattle.std.specs.BTreeMap.{get_by_text}
+use Rattle.std.specs.HashMap.{get_by_text}
 use Rattle.std.specs.List.{position_from, range_with_len}
 use Rattle.std.specs.Option.{option_and_then}
 use Rattle.std.proofs.Math.Path.{fun_ext}

@@ -1,6 +1,6 @@
 -- What names stand for, after a change.
 use Rattle.std.proofs.Common.{◌≡◌, ℕ, zero, suc, ◌+◌, ◌<◌, Bool, true, false, ◌&&◌, cond, List, [], ◌∷◌, nat_cmp, length, get_or, take, slice_get, Option, Some, None, is_some, refl, sym, ap, ◌∙◌, arith, true≢false}
-use Rattle.std.specs.BTreeMap.{BTreeMap, get_by_text}
+use Rattle.std.specs.HashMap.{HashMap, get_by_text}
 use Rattle.std.specs.Cmp.Lexicographic.{slice_cmp, texts_ties}
 use Rattle.std.specs.declared.string.String.{String}
 use Rattle.std.specs.FinMap.{nat_cmp-IsAntisymmetric, slice_cmp-IsAntisymmetric}
@@ -40,13 +40,13 @@ added_by : {B : Type 0} (o : Option B) (v : B) (b : Bool) → (b ≡ true → o 
 added_by o v true h = ap (λ p. option_or p (Some v)) (sym (h refl))
 added_by o v false h = or_none o
 
-module _ {V A : Type 0} (old : BTreeMap (String A) V) (name : List ℕ) (v : V) where
+module _ {V A S : Type 0} (old : HashMap (String A) V S) (name : List ℕ) (v : V) where
   -- a name that stands for something keeps it
   pub kept : is_some (get_by_text old name) ≡ true → (t : List ℕ) → get_by_text old t ≡ option_or (get_by_text old t) (cond (same_text name t) (Some v) None)
   kept known t = kept_by (get_by_text old t) v (same_text name t) (λ e. ap (λ k. is_some (get_by_text old k)) (sym (same_is name t e)) ∙ known)
 
   -- a new name gets a value
-  pub added : (new : BTreeMap (String A) V) → is_some (get_by_text old name) ≡ false →
+  pub added : (new : HashMap (String A) V S) → is_some (get_by_text old name) ≡ false →
       ((t : List ℕ) → get_by_text new t ≡ cond (same_text name t) (Some v) (get_by_text old t)) →
       (t : List ℕ) → get_by_text new t ≡ option_or (get_by_text old t) (cond (same_text name t) (Some v) None)
   added new absent put t =
@@ -97,7 +97,7 @@ first_next f xs i x h e =
     let z : 0 + i ≡ i = omega arith in
     rw z at (first_more f 0 xs i x h e)
 
-found_in : {A : Type 0} (enums : List Enumeration) (e : ℕ) (name : List ℕ) → e < length enums → (table : BTreeMap (String A) ℕ) →
+found_in : {A S : Type 0} (enums : List Enumeration) (e : ℕ) (name : List ℕ) → e < length enums → (table : HashMap (String A) ℕ S) →
     ((x : Enumeration) → IsLiteralTable (get_or enums e x) table) → get_by_text table name ≡ option_and_then (λ enumeration. literal_in enumeration name)
     (slice_get enums e)
 found_in [] e name h table is = absurd (omega arith)
@@ -105,7 +105,7 @@ found_in (x ∷ xs) zero name h table is = is x name
 found_in (x ∷ xs) (suc e) name h table is = found_in xs e name (omega arith) table is
 
 -- the literal that the table of its enumeration gives
-pub literal_is : {A : Type 0} (m : ObjectModel) (e : ℕ) (name : List ℕ) → e < length m.enums → (tables : List (BTreeMap (String A) ℕ))
-    (d : BTreeMap (String A) ℕ) →
+pub literal_is : {A S : Type 0} (m : ObjectModel) (e : ℕ) (name : List ℕ) → e < length m.enums → (tables : List (HashMap (String A) ℕ S))
+    (d : HashMap (String A) ℕ S) →
     AreLiteralTables m.enums tables → get_by_text (get_or tables e d) name ≡ literal m e name
 literal_is m e name h tables d all = found_in m.enums e name h (get_or tables e d) (λ x. all.1 e x d h)

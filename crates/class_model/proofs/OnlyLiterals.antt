@@ -1,6 +1,6 @@
 -- The literals that one enumeration alone has.
 use Rattle.std.proofs.Common.{◌≡◌, ℕ, zero, suc, ◌+◌, ◌<◌, Bool, true, false, not, ◌&&◌, cond, nat_eq, List, [], ◌∷◌, ◌++◌, length, get_or, take, Option, Some, None, is_some, refl, sym, ap, ◌∙◌, subst, arith}
-use Rattle.std.specs.BTreeMap.{BTreeMap, get_by_text}
+use Rattle.std.specs.HashMap.{HashMap, get_by_text}
 use Rattle.std.specs.declared.string.String.{String}
 use Rattle.std.specs.List.{cons_option, position_from}
 use Rattle.std.specs.Option.{option_and_then, option_map_or, option_or}
@@ -22,9 +22,9 @@ only_by o p x false e = sym (more_none o)
 only_by None p x true e = ap (λ q. Some (cond (is_some q) None (Some x))) (e refl)
 only_by (Some y) p x true e = ap (λ q. Some (cond (is_some q) None (Some x))) (e refl)
 
-module _ {V A : Type 0} (old : BTreeMap (String A) (Option V)) (name : List ℕ) (x : V) where
+module _ {V A S : Type 0} (old : HashMap (String A) (Option V) S) (name : List ℕ) (x : V) where
   -- a name that stands for something stands for nothing from now on
-  pub once_more : (new : BTreeMap (String A) (Option V)) →
+  pub once_more : (new : HashMap (String A) (Option V) S) →
       ((t : List ℕ) → get_by_text new t ≡ cond (same_text name t) (Some (cond (is_some (get_by_text old name)) None (Some x))) (get_by_text old t)) →
       (t : List ℕ) → get_by_text new t ≡ one_more (get_by_text old t) (cond (same_text name t) (Some x) None)
   once_more new put t = put t ∙ only_by (get_by_text old t) (get_by_text old name) x (same_text name t) (λ e. ap (get_by_text old) (same_is name t e))
@@ -64,7 +64,7 @@ more_by o f (Some q) i h true e = ap (λ b. one_more (one_more o (Some (f q))) (
     (one_more o (Some (f q)))
 
 -- one literal more of an enumeration
-pub literal_more : {V A : Type 0} (o : Option (Option V)) (f : ℕ → V) (table : BTreeMap (String A) ℕ) (xs : List (List ℕ)) (i : ℕ) (x t : List ℕ) →
+pub literal_more : {V A S : Type 0} (o : Option (Option V)) (f : ℕ → V) (table : HashMap (String A) ℕ S) (xs : List (List ℕ)) (i : ℕ) (x t : List ℕ) →
     i < length xs → x ≡ get_or xs i x → ((t : List ℕ) → get_by_text table t ≡ position_from (λ y. same_text y t) 0 xs) →
     one_more (one_more o (option_and_then (λ l. Some (f l)) (position_from (λ y. same_text y t) 0 (take i xs))))
     (cond (option_map_or (nat_eq i) (get_by_text table x) false && same_text x t) (Some (f i)) None)
@@ -102,15 +102,15 @@ several_next enums i e t h is =
     ∙ ap one_or_several (sym (rw z at (chosen_more {B = ℕ × ℕ} (λ p. option_and_then (λ l. Some (p.0, l)) (literal_in p.1 t)) 0 enums i e h is)))
 
 -- the first enumerations have their tables
-pub record AreTablesTo {A : Type 0} (enums : List Enumeration) (tables : List (BTreeMap (String A) ℕ)) (n : ℕ) : Type 0 where
+pub record AreTablesTo {A S : Type 0} (enums : List Enumeration) (tables : List (HashMap (String A) ℕ S)) (n : ℕ) : Type 0 where
   pub size : length tables ≡ n
-  pub same : (i : ℕ) (d : BTreeMap (String A) ℕ) → i < n → (e : Enumeration) → IsLiteralTable (get_or enums i e) (get_or tables i d)
+  pub same : (i : ℕ) (d : HashMap (String A) ℕ S) → i < n → (e : Enumeration) → IsLiteralTable (get_or enums i e) (get_or tables i d)
 
-module _ {A : Type 0} (enums : List Enumeration) where
-  pub no_tables : AreTablesTo {A = A} enums [] 0
+module _ {A S : Type 0} (enums : List Enumeration) where
+  pub no_tables : AreTablesTo {A = A} {S = S} enums [] 0
   no_tables = record { size = refl; same = λ i d h e. absurd (omega arith) }
 
-  pub one_table : (tables : List (BTreeMap (String A) ℕ)) (n : ℕ) (table : BTreeMap (String A) ℕ) (e : Enumeration) →
+  pub one_table : (tables : List (HashMap (String A) ℕ S)) (n : ℕ) (table : HashMap (String A) ℕ S) (e : Enumeration) →
       AreTablesTo enums tables n → n < length enums → e ≡ get_or enums n e → IsLiteralTable e table → AreTablesTo enums (tables ++ table ∷ []) (n + 1)
   one_table tables n table e so_far h is here = record {
     size = size_more tables n table so_far.size;
@@ -118,5 +118,5 @@ module _ {A : Type 0} (enums : List Enumeration) where
         (λ d. subst (λ x. IsLiteralTable x table) (is ∙ default_alike enums n e d h) here);
   }
 
-  pub all_tables : (tables : List (BTreeMap (String A) ℕ)) (n : ℕ) → AreTablesTo enums tables n → n ≡ length enums → AreLiteralTables enums tables
+  pub all_tables : (tables : List (HashMap (String A) ℕ S)) (n : ℕ) → AreTablesTo enums tables n → n ≡ length enums → AreLiteralTables enums tables
   all_tables tables n so_far e = (so_far.size ∙ e, λ i x d h. so_far.same i d (omega arith) x)

@@ -1,6 +1,6 @@
 -- A model whose indexes are right.
 use Rattle.std.specs.Prelude.{◌≡◌, ℕ, List}
-use Rattle.std.specs.BTreeMap.{get_by_text}
+use Rattle.std.specs.HashMap.{get_by_text}
 use Rattle.class_model.specs.declared.class_model.ClassModel.TheInside.{Inside}
 use Rattle.class_model.specs.Features.{assoc_named, class_named, enum_named, literals_in}
 use Rattle.class_model.specs.Indexes.{AreIndexes, AreLiteralTables, IsTable, one_or_several}

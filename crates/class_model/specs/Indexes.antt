@@ -1,6 +1,6 @@
 -- How a model is indexed, so that what is asked of it is found at once.
 use Rattle.std.specs.Prelude.{◌≡◌, ◌<◌, ◌||◌, ℕ, Bool, false, nat_eq, nat_lt, if◌then◌else◌, List, [], ◌∷◌, fold, length, Option, Some, None, slice_index_or}
-use Rattle.std.specs.BTreeMap.{BTreeMap, get_by_text}
+use Rattle.std.specs.HashMap.{HashMap, get_by_text}
 use Rattle.std.specs.Option.{option_and_then}
 use Rattle.std.specs.declared.string.String.{String}
 use Rattle.class_rules.specs.Ancestors as rows
@@ -56,13 +56,13 @@ abbrev pub AreIndexes : ObjectModel → List ClassIndex → Type 0
 AreIndexes m indexes = (length indexes ≡ length m.classes) × ((c : ℕ) (d : ClassIndex) → c < length m.classes → IsIndexOf m c (slice_index_or indexes c d))
 
 -- the literals of an enumeration by name
-abbrev pub IsLiteralTable : {A : Type 0} → Enumeration → BTreeMap (String A) ℕ → Type 0
+abbrev pub IsLiteralTable : {A S : Type 0} → Enumeration → HashMap (String A) ℕ S → Type 0
 IsLiteralTable e table = (t : List ℕ) → get_by_text table t ≡ has.literal_in e t
 
-abbrev pub AreLiteralTables : {A : Type 0} → List Enumeration → List (BTreeMap (String A) ℕ) → Type 0
-AreLiteralTables {A} enums tables =
+abbrev pub AreLiteralTables : {A S : Type 0} → List Enumeration → List (HashMap (String A) ℕ S) → Type 0
+AreLiteralTables {A} {S} enums tables =
     (length tables ≡ length enums)
-    × ((i : ℕ) (e : Enumeration) (d : BTreeMap (String A) ℕ) → i < length enums → IsLiteralTable (slice_index_or enums i e) (slice_index_or tables i d))
+    × ((i : ℕ) (e : Enumeration) (d : HashMap (String A) ℕ S) → i < length enums → IsLiteralTable (slice_index_or enums i e) (slice_index_or tables i d))
 
 -- the one element of a list, or that there are several
 abbrev pub one_or_several : {A : Type 0} → List A → Option (Option A)

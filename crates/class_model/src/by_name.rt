@@ -1,5 +1,5 @@
 ghost use Rattle.std.specs.Prelude.{◌≡◌, ◌≤◌, ◌^◌, ◌&&◌, List, ℕ, Some, None, false, IfOk, OnOk, if◌then◌else◌, length, nat_eq};
-ghost use Rattle.std.specs.BTreeMap.{get_by_text};
+ghost use Rattle.std.specs.HashMap.{get_by_text};
 ghost use Rattle.std.specs.List.{position_from};
 ghost use Rattle.std.specs.Option.{option_map_or, option_or};
 ghost use Rattle.class_decls.specs.Texts.{same_text};
@@ -7,10 +7,10 @@ ghost use Rattle.class_decls.specs.Texts.{same_text};
 use crate::{Association, Class, Enumeration};
 use ocl_values::Text;
 use std::alloc::{AllocError, Global};
-use std::collections::BTreeMap;
+use std::collections::HashMap;
 
 /// What names stand for.
-pub type ByName<V> = BTreeMap<String, V>;
+pub type ByName<V> = HashMap<String, V>;
 
 /// What has a name.
 pub(crate) trait Titled {
@@ -109,7 +109,7 @@ pub(crate) fn numbers_by_name<T: Titled>(
     requires { length items.now ≤ 2 ^ 32 }
     ensures { IfOk result (λ m. (t : List ℕ) → get_by_text m t ≡ position_from (λ x. same_text (T.title x) t) 0 items.now) }
 {
-    let mut map = BTreeMap::new(alloc);
+    let mut map = HashMap::new(alloc);
     'items: for (i, item) in items.iter().enumerate() {
         add_first(alloc, &mut map, item.title().as_str(), i as u32)?;
     }

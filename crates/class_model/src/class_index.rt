@@ -1,5 +1,5 @@
 ghost use Rattle.std.specs.Prelude.{◌≡◌, ◌<◌, ◌≤◌, ◌^◌, ◌&&◌, ℕ, List, IfOk, OnOk, Some, length};
-ghost use Rattle.std.specs.BTreeMap.{get_by_text};
+ghost use Rattle.std.specs.HashMap.{get_by_text};
 ghost use Rattle.std.specs.List.{position_from};
 ghost use Rattle.std.specs.Option.{option_and_then, option_or};
 ghost use Rattle.class_decls.specs.Texts.{first_numbered, same_text};
@@ -14,7 +14,7 @@ use crate::lists::push_if;
 use crate::operations::{chosen_operations, listed_operations};
 use crate::{AssocNo, Association, AttrNo, Attribute, ClassNo, DerNo, End, ObjectModel, OpNo};
 use std::alloc::{AllocError, Global};
-use std::collections::BTreeMap;
+use std::collections::HashMap;
 use use_lists::Items;
 
 /// What a class has, its own and what it inherits, by number and by name.
@@ -57,7 +57,7 @@ fn attributes_by_name(
     requires { length attrs.now ≤ 2 ^ 32 }
     ensures { IfOk result (λ m. (t : List ℕ) → get_by_text m t ≡ position_from (λ a. above rows.now class a.class && same_text a.name t) 0 attrs.now) }
 {
-    let mut map = BTreeMap::new(alloc);
+    let mut map = HashMap::new(alloc);
     'attrs: for (i, attr) in attrs.iter().enumerate() {
         let holds = is_above(rows, class, attr.class);
         add_first_if(alloc, &mut map, holds, attr.name.as_str(), i as u32)?;
@@ -96,7 +96,7 @@ fn roles_by_name(
     ensures { IfOk result (λ m. (t : List ℕ) → get_by_text m t ≡ first_numbered (λ number a. option_and_then (λ e. Some (number, e)) (end_seen
         (above rows.now class) t a)) 0 assocs.now) }
 {
-    let mut map = BTreeMap::new(alloc);
+    let mut map = HashMap::new(alloc);
     'assocs: for (i, assoc) in assocs.iter().enumerate() {
         add_roles(alloc, &mut map, rows, class, i as u32, assoc)?;
     }

@@ -1,5 +1,5 @@
 ghost use Rattle.std.specs.Prelude.{◌≡◌, ◌<◌, ◌≤◌, ◌^◌, ◌&&◌, ℕ, List, Some, None, IfOk, OnOk, All, if◌then◌else◌, is_some, length};
-ghost use Rattle.std.specs.BTreeMap.{get_by_text};
+ghost use Rattle.std.specs.HashMap.{get_by_text};
 ghost use Rattle.std.specs.List.{position_from};
 ghost use Rattle.std.specs.Option.{option_and_then};
 ghost use Rattle.class_decls.specs.Texts.{same_text};
@@ -10,7 +10,7 @@ use crate::by_name::{ByName, numbers_by_name, put, stands_for};
 use crate::{EnumNo, Enumeration, LitNo};
 use ocl_values::Text;
 use std::alloc::{AllocError, Global};
-use std::collections::BTreeMap;
+use std::collections::HashMap;
 
 /// The literal of a name where one enumeration alone has it, and nothing where several do.
 pub(crate) type OnlyLiterals = ByName<Option<(EnumNo, LitNo)>>;
@@ -90,7 +90,7 @@ pub(crate) fn only_literals(
     requires few { All (λ e. length e.literals ≤ 2 ^ 32) enums.now }
     ensures { IfOk result (λ m. (t : List ℕ) → get_by_text m t ≡ one_or_several (literals_in enums.now t)) }
 {
-    let mut map = BTreeMap::new(alloc);
+    let mut map = HashMap::new(alloc);
     'enums: for (i, enumeration) in enums.iter().enumerate() {
         let literals = enumeration.literals.as_slice();
         add_literals(alloc, &mut map, &tables[i], i as u32, literals)?;

@@ -1,5 +1,5 @@
 ghost use Rattle.std.specs.Prelude.{◌≡◌, ◌≤◌, ◌^◌, ◌&&◌, ℕ, List, not, true, false, Some, None, IfOk, OnOk, if◌then◌else◌, find, fold, length, nat_eq};
-ghost use Rattle.std.specs.BTreeMap.{get_by_text};
+ghost use Rattle.std.specs.HashMap.{get_by_text};
 ghost use Rattle.std.specs.List.{list_all, position_from};
 ghost use Rattle.std.specs.Option.{option_and_then, option_map_or};
 ghost use Rattle.class_decls.specs.Texts.{same_text};
@@ -11,7 +11,7 @@ use crate::inheritance::is_above;
 use crate::lists::push_if;
 use crate::{ClassNo, OpNo, Operation};
 use std::alloc::{AllocError, Global};
-use std::collections::BTreeMap;
+use std::collections::HashMap;
 use use_lists::Items;
 
 /// The first declaration of each operation of a class.
@@ -24,7 +24,7 @@ fn first_declarations(
     requires { length ops.now ≤ 2 ^ 32 }
     ensures { IfOk result (λ m. (t : List ℕ) → get_by_text m t ≡ position_from (declares (above rows.now class) t) 0 ops.now) }
 {
-    let mut map = BTreeMap::new(alloc);
+    let mut map = HashMap::new(alloc);
     'ops: for (i, op) in ops.iter().enumerate() {
         let holds = is_above(rows, class, op.class);
         add_first_if(alloc, &mut map, holds, op.name.as_str(), i as u32)?;
@@ -130,7 +130,7 @@ fn latest_declarations(
     requires { length ops.now ≤ 2 ^ 32 }
     ensures { IfOk result (λ m. (t : List ℕ) → get_by_text m t ≡ latest ops.now (numbers_of (declares (above rows.now class) t) ops.now)) }
 {
-    let mut map = BTreeMap::new(alloc);
+    let mut map = HashMap::new(alloc);
     'ops: for (i, op) in ops.iter().enumerate() {
         let holds = is_above(rows, class, op.class);
         add_later_if(alloc, &mut map, ops, holds, op.name.as_str(), i as u32)?;

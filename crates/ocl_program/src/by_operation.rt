@@ -1,5 +1,5 @@
 ghost use Rattle.std.specs.Prelude.{◌≡◌, ◌<◌, ◌≤◌, ◌^◌, ◌++◌, ◌∷◌, [], ℕ, List, All, IfOk, OnOk, Some, None, cond, if◌then◌else◌, length, map, nat_eq, unwrap_or};
-ghost use Rattle.std.specs.BTreeMap.{get_by_text};
+ghost use Rattle.std.specs.HashMap.{get_by_text};
 ghost use Rattle.std.specs.List.{flat_map, range_with_len};
 ghost use Rattle.class_decls.specs.Texts.{same_text};
 ghost use Rattle.class_model.specs.Inheritance.{is_a};
@@ -9,7 +9,7 @@ ghost use Rattle.ocl_program.specs.Programs.{AreRows, contracts_for};
 use class_model::{ByName, ClassModel, ClassNo, OpNo, Operation};
 use ocl_core::{Contract, ContractNo, ProgramParts};
 use std::alloc::{AllocError, Global};
-use std::collections::BTreeMap;
+use std::collections::HashMap;
 use use_lists::Items;
 
 /// For each of so many operations no contract yet.
@@ -108,7 +108,7 @@ fn declarations_by_name(
     requires { length ops.now ≤ 2 ^ 32 }
     ensures { IfOk result (λ m. (t : List ℕ) → unwrap_or (get_by_text m t) [] ≡ declared t ops.now) }
 {
-    let mut map = BTreeMap::new(alloc);
+    let mut map = HashMap::new(alloc);
     'ops: for (i, op) in ops.iter().enumerate() {
         add_declaration(alloc, &mut map, op, i as u32)?;
     }

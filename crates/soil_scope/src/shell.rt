@@ -4,7 +4,7 @@ ghost use Rattle.soil_scope.specs.Shells.{slot_of, with_name};
 use class_model::{ByName, add_first};
 use ocl_values::Text;
 use std::alloc::{AllocError, Global};
-use std::collections::BTreeMap;
+use std::collections::HashMap;
 use std::marker::Model;
 use use_lists::Items;
 
@@ -34,7 +34,7 @@ impl ShellNames {
     {
         ShellNames {
             names: Items::new(alloc),
-            slots: BTreeMap::new(alloc),
+            slots: HashMap::new(alloc),
         }
     }
 

@@ -1,5 +1,5 @@
 use Rattle.std.proofs.Common.{◌≡◌, ◌≤◌, ◌∙◌, Bor, List, ℕ, length, map, unwrap_or, ap, ap₂, sym, arith}
-use Rattle.std.specs.BTreeMap.{get_by_text}
+use Rattle.std.specs.HashMap.{get_by_text}
 use Rattle.std.specs.List.{enumerate_from}
 use Rattle.std.proofs.Math.Path.{fun_ext}
 use Rattle.class_decls.specs.declared.decls.ClassDecl.{ClassDecl}

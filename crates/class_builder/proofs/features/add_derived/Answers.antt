@@ -1,5 +1,5 @@
 use Rattle.std.proofs.Common.{not, ◌++◌, sym, ap, ◌∙◌}
-use Rattle.std.specs.BTreeMap.{get_by_text}
+use Rattle.std.specs.HashMap.{get_by_text}
 use Rattle.class_decls.proofs.Joined.{joined2}
 use Rattle.class_builder.specs.Models.{attribute, type_by}
 use Rattle.class_builder.proofs.Steps.{kept_more}

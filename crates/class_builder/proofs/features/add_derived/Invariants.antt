@@ -1,5 +1,5 @@
 use Rattle.std.proofs.Common.{◌≡◌, ◌++◌, filter, map, not, take}
-use Rattle.std.specs.BTreeMap.{get_by_text}
+use Rattle.std.specs.HashMap.{get_by_text}
 use Rattle.class_builder.specs.Models.{attribute, type_by}
 use Rattle.class_builder.proofs.features.add_derived.Given as goal
 

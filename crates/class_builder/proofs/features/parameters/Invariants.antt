@@ -1,5 +1,5 @@
 use Rattle.std.proofs.Common.{◌≡◌, map, take}
-use Rattle.std.specs.BTreeMap.{get_by_text}
+use Rattle.std.specs.HashMap.{get_by_text}
 use Rattle.class_builder.specs.Models.{parameter, type_by}
 use Rattle.class_builder.proofs.features.parameters.Given as goal
 

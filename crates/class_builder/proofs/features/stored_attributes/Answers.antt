@@ -1,5 +1,5 @@
 use Rattle.std.proofs.Common.{[]}
-use Rattle.std.specs.BTreeMap.{get_by_text}
+use Rattle.std.specs.HashMap.{get_by_text}
 use Rattle.class_decls.proofs.Numbered.{numbered_more}
 use Rattle.class_builder.specs.Models.{stored_in, type_by}
 use Rattle.class_builder.proofs.features.stored_attributes.Goals as goal

@@ -1,5 +1,5 @@
 use Rattle.std.proofs.Common.{◌≡◌, take}
-use Rattle.std.specs.BTreeMap.{get_by_text}
+use Rattle.std.specs.HashMap.{get_by_text}
 use Rattle.class_decls.specs.Names.{numbered}
 use Rattle.class_builder.specs.Models.{derived_in, operations_in, stored_in, type_by}
 use Rattle.class_builder.proofs.features.stored_attributes.Given as goal

@@ -1,5 +1,5 @@
 use Rattle.std.proofs.Common.{◌≡◌, map, take, unwrap_or}
-use Rattle.std.specs.BTreeMap.{get_by_text}
+use Rattle.std.specs.HashMap.{get_by_text}
 use Rattle.class_builder.specs.Models.{association}
 use Rattle.class_builder.proofs.multiplicities.associations.Given as goal
 

@@ -3,7 +3,7 @@ use Rattle.std.specs.List.{enumerate_from}
 use Rattle.std.specs.Map.{lookup}
 use Rattle.std.specs.Option.{option_or}
 use Rattle.class_decls.proofs.Numbered.{all_taken}
-use Rattle.std.specs.BTreeMap.{get_by_text}
+use Rattle.std.specs.HashMap.{get_by_text}
 use Rattle.class_decls.specs.Texts.{same_text}
 use Rattle.class_model.specs.declared.types.OclType.TheVariants as T
 use Rattle.class_builder.proofs.Lookups.{named_more}

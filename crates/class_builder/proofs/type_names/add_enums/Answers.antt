@@ -1,5 +1,5 @@
 use Rattle.std.proofs.Common.{ap, ◌∙◌}
-use Rattle.std.specs.BTreeMap.{get_by_text}
+use Rattle.std.specs.HashMap.{get_by_text}
 use Rattle.class_decls.specs.Texts.{same_text}
 use Rattle.class_model.specs.declared.types.OclType.TheVariants as T
 use Rattle.class_builder.proofs.Lookups.{named_more}

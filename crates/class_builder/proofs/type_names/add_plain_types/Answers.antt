@@ -1,5 +1,5 @@
 use Rattle.std.proofs.Common.{ap, ◌∙◌}
-use Rattle.std.specs.BTreeMap.{get_by_text}
+use Rattle.std.specs.HashMap.{get_by_text}
 use Rattle.class_builder.proofs.Lookups.{plain_is}
 use Rattle.class_builder.proofs.type_names.add_plain_types.Goals as goal
 

@@ -1,5 +1,5 @@
 use Rattle.std.proofs.Common.{◌≡◌, ◌∙◌, ◌&&◌, List, ℕ, Some, None, cond, sym, ap}
-use Rattle.std.specs.BTreeMap.{get_by_text}
+use Rattle.std.specs.HashMap.{get_by_text}
 use Rattle.std.proofs.lemmas.Result.{on_ok_weaker}
 use Rattle.class_decls.specs.Texts.{same_text}
 use Rattle.class_model.specs.Indexes.{one_more}

@@ -1,5 +1,5 @@
 use Rattle.std.proofs.Common.{◌≡◌, ◌<◌, ℕ, List, length, get_or}
-use Rattle.std.specs.BTreeMap.{BTreeMap}
+use Rattle.std.specs.HashMap.{HashMap}
 use Rattle.class_model.specs.declared.object_model.Enumeration.{Enumeration}
 use Rattle.class_model.specs.Indexes.{IsLiteralTable}
 use Rattle.class_model.proofs.OnlyLiterals.{AreTablesTo}

@@ -1,5 +1,5 @@
 use Rattle.std.proofs.Common.{◌≡◌, ℕ, List, take}
-use Rattle.std.specs.BTreeMap.{get_by_text}
+use Rattle.std.specs.HashMap.{get_by_text}
 use Rattle.class_model.specs.Features.{literals_in}
 use Rattle.class_model.specs.Indexes.{one_or_several}
 use Rattle.class_model.proofs.literals.only_literals.Given as goal

@@ -1,5 +1,5 @@
 use Rattle.std.proofs.Common.{◌≡◌, ◌&&◌, not, false, None, cond, sym, ap, ◌∙◌, take}
-use Rattle.std.specs.BTreeMap.{get_by_text}
+use Rattle.std.specs.HashMap.{get_by_text}
 use Rattle.std.specs.Option.{option_map_or}
 use Rattle.class_decls.proofs.Numbered.{all_taken}
 use Rattle.class_decls.specs.Texts.{same_text}

@@ -1,5 +1,5 @@
 use Rattle.std.proofs.Common.{◌≡◌, ℕ, List, [], take, unwrap_or}
-use Rattle.std.specs.BTreeMap.{get_by_text}
+use Rattle.std.specs.HashMap.{get_by_text}
 use Rattle.ocl_program.specs.ContractRows.{declared}
 use Rattle.ocl_program.proofs.by_operation.declarations_by_name.Given as goal
 
