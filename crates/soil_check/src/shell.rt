@@ -1,26 +1,15 @@
-ghost use Rattle.std.specs.Prelude.{◌≡◌, All, IfOk, if◌then◌else◌, length};
+ghost use Rattle.std.specs.Prelude.{◌≡◌, All, IfOk, OnOk, Some, length};
+ghost use Rattle.std.specs.Str.Lossy.{utf8_lossy};
 ghost use Rattle.use_text.specs.Tokens.{IsWithin};
 ghost use Rattle.soil_scope.specs.Shells.{with_name};
 ghost use Rattle.soil_check.specs.Shell.{is_taken, name_of, shell_names, taken_by};
 
 use crate::Scope;
-use ocl_values::Text;
 use soil_scope::ShellNames;
 use std::alloc::{AllocError, Global};
+use std::{mem, str};
 use use_decls::is_name_kind;
 use use_text::Token;
-
-/// The name that a token is, if it is one.
-fn name_of(alloc: Global, text: &[u8], token: &Token) -> Result<Option<Text>, AllocError>
-    requires { IsWithin (length text.now) token.now }
-    ensures { IfOk result (λ name. name ≡ name_of text.now token.now) }
-{
-    if !is_name_kind(token.kind) {
-        return Ok(None);
-    }
-    let bytes = &text[token.start as usize..token.end as usize];
-    Ok(Some(Text::from_string(String::from_utf8_lossy(alloc, bytes)?)))
-}
 
 #[tactic(auto, using(crate::proofs::Taken::some_mapped))]
 fn is_taken<S: Scope>(scope: &S, is_block: bool, name: &str) -> bool
@@ -29,39 +18,68 @@ fn is_taken<S: Scope>(scope: &S, is_block: bool, name: &str) -> bool
     is_block || scope.shell(name).is_some()
 }
 
-fn with_name_if(
-    alloc: Global,
-    is_taken: bool,
-    names: ShellNames,
-    name: &str,
-) -> Result<ShellNames, AllocError>
-    ensures { IfOk result (λ all. all ≡ (if is_taken then with_name names name.now else names)) }
+fn add_name(alloc: Global, names: &mut ShellNames, name: &str) -> Result<(), AllocError>
+    ensures { OnOk result (names.new ≡ with_name names.old name.now) }
 {
-    if is_taken {
-        names.with_name(alloc, name)
-    } else {
-        Ok(names)
-    }
+    let before = mem::replace(names, ShellNames::new(alloc));
+    *names = before.with_name(alloc, name)?;
+    Ok(())
 }
 
-/// A name more, if a command takes it from the shell and it is not listed yet.
-fn with_taken<S: Scope>(
+/// Adds a name, if a command takes it from the shell and it is not listed yet.
+fn add_taken<S: Scope>(
     alloc: Global,
     scope: &S,
     is_block: bool,
-    names: ShellNames,
-    name: Option<Text>,
-) -> Result<ShellNames, AllocError>
-    ensures { IfOk result (λ all. all ≡ taken_by (S.known scope.now) is_block names name) }
+    names: &mut ShellNames,
+    name: &str,
+) -> Result<(), AllocError>
+    ensures { OnOk result (names.new ≡ taken_by (S.known scope.now) is_block names.old (Some name.now)) }
 {
-    match name {
-        None => Ok(names),
-        Some(name) => {
-            let name = name.as_str();
-            let is_taken = is_taken(scope, is_block, name);
-            with_name_if(alloc, is_taken, names, name)
+    if is_taken(scope, is_block, name) {
+        add_name(alloc, names, name)
+    } else {
+        Ok(())
+    }
+}
+
+/// The same of the name that some bytes are.
+#[tactic(auto, using(crate::proofs::Taken::whole_lossy))]
+fn add_bytes<S: Scope>(
+    alloc: Global,
+    scope: &S,
+    is_block: bool,
+    names: &mut ShellNames,
+    bytes: &[u8],
+) -> Result<(), AllocError>
+    ensures { OnOk result (names.new ≡ taken_by (S.known scope.now) is_block names.old (Some (utf8_lossy bytes.now))) }
+{
+    match str::from_utf8(bytes) {
+        Ok(name) => add_taken(alloc, scope, is_block, names, name),
+        Err(_) => {
+            let name = String::from_utf8_lossy(alloc, bytes)?;
+            add_taken(alloc, scope, is_block, names, name.as_str())
         }
     }
+}
+
+/// The same of the name that a token is, if it is one.
+fn add_token<S: Scope>(
+    alloc: Global,
+    scope: &S,
+    is_block: bool,
+    names: &mut ShellNames,
+    text: &[u8],
+    token: &Token,
+) -> Result<(), AllocError>
+    requires { IsWithin (length text.now) token.now }
+    ensures { OnOk result (names.new ≡ taken_by (S.known scope.now) is_block names.old (name_of text.now token.now)) }
+{
+    if !is_name_kind(token.kind) {
+        return Ok(());
+    }
+    let bytes = &text[token.start as usize..token.end as usize];
+    add_bytes(alloc, scope, is_block, names, bytes)
 }
 
 /// The names that a command takes from the shell, in the order of its environment.
@@ -77,8 +95,7 @@ pub(crate) fn shell_names<S: Scope>(
 {
     let mut names = ShellNames::new(alloc);
     'tokens: for token in tokens {
-        let name = name_of(alloc, text, token)?;
-        names = with_taken(alloc, scope, is_block, names, name)?;
+        add_token(alloc, scope, is_block, &mut names, text, token)?;
     }
     Ok(names)
 }

@@ -1,3 +1,4 @@
+pub mod Verdicts
 pub mod Unlinked
 pub mod Stamps
 pub mod Led

@@ -1,5 +1,6 @@
 pub mod FileWords
 pub mod Commands
+pub mod Shapes
 pub mod Readings
 pub mod Shell
 pub mod Unbuilt

@@ -13,6 +13,7 @@ mod reading;
 mod report;
 mod resetting;
 mod session;
+mod shapes;
 mod shell;
 mod starts;
 mod unbuilt;

@@ -9,12 +9,13 @@ ghost use Rattle.use_session.specs.Answering.{Answers, machine_in};
 ghost use Rattle.use_session.specs.Commands.{reading_of};
 ghost use Rattle.use_session.specs.Kept.{IsKept, machine_of};
 ghost use Rattle.use_session.specs.Machine.{answered_reading, counts, start, step};
+ghost use Rattle.use_session.specs.Shapes.{IsTreeOf};
 
 use crate::Machine;
 use crate::answers::{refuse, refuse_at};
 use crate::exits::{C3, is_exit, word_place};
 use crate::file_word::is_open;
-use crate::reading::{Reading, read_cut};
+use crate::reading::{CommandReader, Reading};
 use crate::starts::start_of;
 use grammar_core::Grammar;
 use ocl_program::Program;
@@ -25,7 +26,7 @@ use std::marker::Model;
 use std::sync::ledger::Ledger;
 use thiserror::Error;
 use use_steps::Steps;
-use use_syntax::{Parsed, Reader, TokenTree};
+use use_syntax::Parsed;
 use use_text::{Code, Cut, Place};
 
 /// How a command ended.
@@ -58,7 +59,7 @@ pub enum SessionFault {
 #[derive(Drop)]
 pub struct Session {
     grammar: Grammar,
-    reader: Reader,
+    reader: CommandReader,
     machine: Machine,
     over: bool,
 }
@@ -66,13 +67,14 @@ pub struct Session {
 /// Checks a command that was read, carries it out and answers it.
 fn answer_parsed<L: Ledger>(
     machine: &mut Machine,
-    reader: &mut Reader,
+    reader: &mut CommandReader,
     line: u32,
     read: Parsed,
     out: &mut Vec<u8>,
     steps: &mut Steps<L>,
 ) -> Result<Turn, AllocError>
     requires text { All (IsWithin (length read.text)) read.tokens }
+    requires tree { IsTreeOf read.tokens read.tree }
     requires kept { IsKept machine.old }
     ensures { Answers (answered_reading (machine_of machine.old) line read.text (parsed read.tokens (root_tree read.tree))) out.old.items steps.old
         result machine.new out.new.items steps.new }
@@ -85,7 +87,7 @@ fn answer_parsed<L: Ledger>(
     }
     let checked = machine.check(&read);
     let Parsed { tree, tokens, .. } = read;
-    reader.take_back(TokenTree { tree, tokens });
+    reader.take_back(tokens, tree)?;
     match checked {
         Ok(command) => machine.answer(at, word, command, out, steps),
         Err(TypeFault::Refused(refusal)) => refuse(refusal, out),
@@ -96,7 +98,7 @@ fn answer_parsed<L: Ledger>(
 /// Reads a command that opens no file, and answers it.
 fn answer_read<L: Ledger>(
     machine: &mut Machine,
-    reader: &mut Reader,
+    reader: &mut CommandReader,
     grammar: &Grammar,
     cut: &Cut,
     out: &mut Vec<u8>,
@@ -108,7 +110,7 @@ fn answer_read<L: Ledger>(
     ensures { Answers (answered_reading (machine_of machine.old) cut.now.first_line cut.now.text (reading_of cut.now)) out.old.items steps.old
         result machine.new out.new.items steps.new }
 {
-    match read_cut(machine.alloc, reader, grammar, cut)? {
+    match reader.read_cut(grammar, cut)? {
         Reading::Refused(refusal) => refuse(refusal, out),
         Reading::Parsed(parsed) => {
             answer_parsed(machine, reader, cut.first_line, parsed, out, steps)
@@ -119,7 +121,7 @@ fn answer_read<L: Ledger>(
 /// Answers a command.
 fn answer<L: Ledger>(
     machine: &mut Machine,
-    reader: &mut Reader,
+    reader: &mut CommandReader,
     grammar: &Grammar,
     cut: &Cut,
     out: &mut Vec<u8>,
@@ -167,7 +169,7 @@ impl Session {
     {
         Ok(Session {
             grammar,
-            reader: Reader::new(alloc),
+            reader: CommandReader::new(alloc)?,
             machine: Machine::new(alloc, program)?,
             over: false,
         })
