@@ -40,6 +40,7 @@ use Rattle.use_session.specs.declared.session.Turn.TheVariants.{Quiet, Refused}
 use Rattle.use_session.specs.Answering.{Answers, IsRefused, TellsFault}
 use Rattle.use_session.specs.Answers.{refusal_line}
 use Rattle.use_session.specs.Kept.{IsKept, IsProper, machine_of, points}
+use Rattle.use_session.specs.Lines.{fault_in, refusal_in}
 use Rattle.use_session.specs.Machine.{Machine, accepted, bound, execute, executed as told, faulted_after, kept, max_open, open_calls}
 use Rattle.use_session.proofs.Keeping.{longer, moved, on_kept, on_machine, present_proper}
 use Rattle.use_session.proofs.Told.{line_answers}
@@ -48,39 +49,40 @@ abbrev pub entry : List Change → Entry
 entry cs = record { changes = cs; moved = Stay }
 
 -- how a step goes on that was carried out, and one that was refused
-accepts : (m : Machine) (o : Outcome Execution ExecFault (Unit {0})) → o.0 ≡ Ok tt
-    → told m o ≡ accepted (kept m o.1.progress.changes (record { state = o.1.progress.state; calls = open_calls m })) [] o.1.steps
-accepts m (Ok u, x) e = refl
-accepts m (Err f, x) e = absurd (differ e)
+accepts : (m : Machine) (line : ℕ) (o : Outcome Execution ExecFault (Unit {0})) → o.0 ≡ Ok tt
+    → told m line o ≡ accepted (kept m o.1.progress.changes (record { state = o.1.progress.state; calls = open_calls m })) [] o.1.steps
+accepts m line (Ok u, x) e = refl
+accepts m line (Err f, x) e = absurd (differ e)
   where
     differ : ◌≡◌ {A = Result (Unit {0}) ExecFault} (Err f) (Ok tt) → ⊥
     differ e = cc
 
-refuses : (m : Machine) (o : Outcome Execution ExecFault (Unit {0})) (f : ExecFault) → o.0 ≡ Err f → told m o ≡ faulted_after o.1.steps m f
-refuses m (Ok u, x) f e = absurd (differ e)
+refuses : (m : Machine) (line : ℕ) (o : Outcome Execution ExecFault (Unit {0})) (f : ExecFault) → o.0 ≡ Err f
+    → told m line o ≡ faulted_after o.1.steps m (fault_in line f)
+refuses m line (Ok u, x) f e = absurd (differ e)
   where
     differ : ◌≡◌ {A = Result (Unit {0}) ExecFault} (Ok u) (Err f) → ⊥
     differ e = cc
-refuses m (Err g, x) f e = let same : g ≡ f = cc in ap (faulted_after x.steps m) same
+refuses m line (Err g, x) f e = let same : g ≡ f = cc in ap (λ (h : ExecFault). faulted_after x.steps m (fault_in line h)) same
 
 -- a step sees nothing of frames
-unseen : (m : Machine) (o : Outcome Execution ExecFault (Unit {0})) → told m o ≡ told m (o.0, bare o.1)
-unseen m (Ok tt, x) = refl
-unseen m (Err f, x) = refl
+unseen : (m : Machine) (line : ℕ) (o : Outcome Execution ExecFault (Unit {0})) → told m line o ≡ told m line (o.0, bare o.1)
+unseen m line (Ok tt, x) = refl
+unseen m line (Err f, x) = refl
 
-module _ (k : Kept) (h : IsKept k) (v : IsValid k.store.layout k.store.state) (body : List Stmt) (shell : List (List ℕ)) (values : List Value)
+module _ (k : Kept) (h : IsKept k) (v : IsValid k.store.layout k.store.state) (begins : ℕ) (body : List Stmt) (shell : List (List ℕ)) (values : List Value)
     (is_bound : values ≡ bound (machine_of k)) (bytes : List ℕ) (steps : ℕ) where
   -- what the statements come to over the store and the frames that are kept
   abbrev outcome : Outcome Execution ExecFault (Unit {0})
   outcome = exec k.program body shell values k.store k.frames
 
-  same_step : told (machine_of k) outcome ≡ execute (machine_of k) body shell
+  same_step : told (machine_of k) begins outcome ≡ execute (machine_of k) begins body shell
   same_step =
       let m = machine_of k in
       let plain = exec k.program body shell values k.store [] in
       let same = exec_unseen k.program body shell values k.store k.frames [] in
-      unseen m outcome ∙ (λ i. told m (same.0 i, same.1 i)) ∙ sym (unseen m plain)
-      ∙ (λ i. told m (exec k.program body shell (is_bound i) (record k.store { layout = h.layout i }) []))
+      unseen m begins outcome ∙ (λ i. told m begins (same.0 i, same.1 i)) ∙ sym (unseen m begins plain)
+      ∙ (λ i. told m begins (exec k.program body shell (is_bound i) (record k.store { layout = h.layout i }) []))
 
   module _ (cs : List Change) (d : Diagram) (fs : List Frame) (steps' : ℕ) (done : Executes k.store k.frames outcome steps cs d fs steps')
       (layout : d.layout ≡ k.store.layout) (lead : Lead k.store.layout k.store.state cs d.state)
@@ -108,10 +110,10 @@ module _ (k : Kept) (h : IsKept k) (v : IsValid k.store.layout k.store.state) (b
           few = subst (λ (calls : List (Call × Picture)). length calls ≤ max_open) (sym done.noted.same) before.few;
         }
 
-    step : accepted (kept (machine_of k) cs now) [] outcome.1.steps ≡ execute (machine_of k) body shell
+    step : accepted (kept (machine_of k) cs now) [] outcome.1.steps ≡ execute (machine_of k) begins body shell
     step =
         (λ i. accepted (kept (machine_of k) (done.changes i) (record { state = ap (λ (e : Diagram). e.state) done.state i; calls = done.noted.same i })) [] outcome.1.steps)
-        ∙ sym (accepts (machine_of k) outcome done.done) ∙ same_step
+        ∙ sym (accepts (machine_of k) begins outcome done.done) ∙ same_step
 
     answered : Answers (accepted (kept (machine_of k) cs now) [] outcome.1.steps) bytes steps (Ok Quiet) behind bytes steps'
     answered = record {
@@ -124,7 +126,7 @@ module _ (k : Kept) (h : IsKept k) (v : IsValid k.store.layout k.store.state) (b
 
     -- the changes are kept
     pub executed_answers : (history : History) → history ≡ record k.history { past = take k.history.capacity (entry cs ∷ k.history.past); future = [] }
-        → Answers (execute (machine_of k) body shell) bytes steps (Ok Quiet) (record k { store = d; frames = fs; structure = counts; history = history }) bytes steps'
+        → Answers (execute (machine_of k) begins body shell) bytes steps (Ok Quiet) (record k { store = d; frames = fs; structure = counts; history = history }) bytes steps'
     executed_answers history same =
         subst (λ s. Answers s bytes steps (Ok Quiet) (record k { store = d; frames = fs; structure = counts; history = history }) bytes steps') step
         (subst (λ (z : Diagram × History). Answers (accepted (kept (machine_of k) cs now) [] outcome.1.steps) bytes steps (Ok Quiet)
@@ -157,12 +159,12 @@ module _ (k : Kept) (h : IsKept k) (v : IsValid k.store.layout k.store.state) (b
     }
 
   statements_refused : (f : ExecFault) (line : List ℕ) (code : Code) (d : Diagram) (fs : List Frame) (steps' : ℕ)
-      → faulted_after outcome.1.steps (machine_of k) f ≡ record { machine = machine_of k; bytes = line; turn = Refused code; units = outcome.1.steps }
+      → faulted_after outcome.1.steps (machine_of k) (fault_in begins f) ≡ record { machine = machine_of k; bytes = line; turn = Refused code; units = outcome.1.steps }
       → Refuses k.store k.frames outcome steps f d fs steps' → (result : Result Turn AllocError) (bytes' : List ℕ) → IsRefused code line bytes result bytes'
-      → Answers (execute (machine_of k) body shell) bytes steps result (record k { store = d; frames = fs }) bytes' steps'
+      → Answers (execute (machine_of k) begins body shell) bytes steps result (record k { store = d; frames = fs }) bytes' steps'
   statements_refused f line code d fs steps' same is result bytes' told =
       subst (λ s. Answers s bytes steps result (record k { store = d; frames = fs }) bytes' steps')
-      (sym same ∙ sym (refuses (machine_of k) outcome f is.refused) ∙ same_step)
+      (sym same ∙ sym (refuses (machine_of k) begins outcome f is.refused) ∙ same_step)
       (subst (λ (z : Diagram). Answers (record { machine = machine_of k; bytes = line; turn = Refused code; units = outcome.1.steps }) bytes steps result
       (record k { store = z; frames = fs }) bytes' steps') (sym is.state)
       (line_answers (machine_of k) line code outcome.1.steps bytes steps result (stayed d fs is.state is.noted) bytes' steps' told.0 told.1
@@ -170,10 +172,10 @@ module _ (k : Kept) (h : IsKept k) (v : IsValid k.store.layout k.store.state) (b
 
   -- whatever the fault
   pub fault_answers : (x : ExecFault) (d : Diagram) (fs : List Frame) (steps' : ℕ) → Tells k.store k.frames outcome steps (Err x) d fs steps'
-      → (result : Result Turn AllocError) (bytes' : List ℕ) → TellsFault k.program x bytes result bytes'
-      → Answers (execute (machine_of k) body shell) bytes steps result (record k { store = d; frames = fs }) bytes' steps'
+      → (result : Result Turn AllocError) (bytes' : List ℕ) → TellsFault k.program (fault_in begins x) bytes result bytes'
+      → Answers (execute (machine_of k) begins body shell) bytes steps result (record k { store = d; frames = fs }) bytes' steps'
   fault_answers fault.Memory d fs steps' h (Ok turn) bytes' t = absurd (true≢false (sym t))
   fault_answers fault.Memory d fs steps' h (Err e) bytes' t = tt
-  fault_answers (fault.Refused r) d fs steps' h result bytes' t = statements_refused (fault.Refused r) (refusal_line r) r.code d fs steps' refl h result bytes' t
+  fault_answers (fault.Refused r) d fs steps' h result bytes' t = statements_refused (fault.Refused r) (refusal_line (refusal_in begins r)) r.code d fs steps' refl h result bytes' t
   fault_answers (fault.Broken r n v) d fs steps' h result bytes' t =
-      statements_refused (fault.Broken r n v) (broken_line k.program r n v) r.code d fs steps' refl h result bytes' t
+      statements_refused (fault.Broken r n v) (broken_line k.program (refusal_in begins r) n v) r.code d fs steps' refl h result bytes' t

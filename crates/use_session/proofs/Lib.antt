@@ -18,3 +18,5 @@ pub mod Written
 pub mod Zipped
 pub mod Trimmed
 pub mod Opened
+pub mod SameProgram
+pub mod Found

@@ -1,6 +1,6 @@
 -- What a command is checked among is the model's, and so it may be carried out.
 use Rattle.std.proofs.Common.{◌≡◌, ℕ, ◌<◌, ◌≤◌, All, List, [], ◌∷◌, Option, Some, None, IfSome, length, refl, sym, ap, ◌∙◌, subst, arith, ⊎_elim}
-use Rattle.std.specs.Prelude.{IfOk, Result, Ok, Err, codes, slice_get}
+use Rattle.std.specs.Prelude.{codes, slice_get}
 use Rattle.std.specs.BTreeMap.{is_at}
 use Rattle.std.specs.Option.{ForSome, option_and_then, option_map, option_map_or}
 use Rattle.std.proofs.lemmas.List.Elements.{All-cons, All-head, All-map, All-weaker}
@@ -19,7 +19,6 @@ use Rattle.entry_states.specs.declared.frame.Call.{Call}
 use Rattle.entry_states.specs.Overlays.{Picture}
 use Rattle.contract_frames.specs.Entering.{IsCall}
 use Rattle.class_model.specs.declared.object_model.ObjectModel.{ObjectModel}
-use Rattle.ocl_rules.specs.declared.fault.TypeFault.{TypeFault}
 use Rattle.object_state.specs.declared.layout.Layout.{Layout}
 use Rattle.object_state.specs.declared.objects.Object.{Object}
 use Rattle.object_state.specs.declared.objects.Variable.{Variable}
@@ -92,7 +91,7 @@ module _ (m : ObjectModel) (ranges : IsInRange m) where
   frame_of p same (c ∷ cs) h =
       bindings_proper c.0.op (subst (λ (z : ObjectModel). c.0.op < length z.ops) same (All-head (λ (c : Call × Picture). IsCall p c.0) c cs h).known)
 
-runs : (m : ObjectModel) (command : Checked) → IsCommandOf m command → TakesNames command → MayRun m command
+pub runs : (m : ObjectModel) (command : Checked) → IsCommandOf m command → TakesNames command → MayRun m command
 runs m c.Empty h k = tt
 runs m (c.Query e t shell) h k = h.0.checked.sound
 runs m (c.Explain e t shell) h k = tt
@@ -107,7 +106,3 @@ runs m c.Reset h k = tt
 runs m (c.Show number) h k = tt
 runs m (c.Drop number) h k = tt
 runs m c.Quit h k = tt
-
-pub may_run : (m : ObjectModel) (result : Result Checked TypeFault) → IfOk result (IsCommandOf m) → IfOk result TakesNames → IfOk result (MayRun m)
-may_run m (Ok command) h k = runs m command h k
-may_run m (Err fault) h k = tt

@@ -1,5 +1,5 @@
 -- What the tokens of a command are read as tells its tree, and the tree tells what they are read as.
-use Rattle.std.proofs.Common.{◌≡◌, ℕ, List, Bool, true, false, sym, ap, true≢false, Result, Ok, Err}
+use Rattle.std.proofs.Common.{◌≡◌, List, Bool, true, false, sym, ap, true≢false, Result, Ok, Err}
 use Rattle.std.specs.Prelude.{IfOk}
 use Rattle.use_text.specs.declared.token.Token.{Token}
 use Rattle.grammar_core.specs.Arena.{root_tree}

@@ -16,24 +16,25 @@ use Rattle.use_text.specs.Places.{place_at}
 use Rattle.use_text.specs.Refusals.{refusal_at}
 use Rattle.use_syntax.specs.Reading.{Reading, refused, place_in, place_of_first, read_command}
 use Rattle.use_session.specs.declared.starts.Start.{Start}
+use Rattle.use_session.specs.Lines.{place_in_stream}
 
 -- a form that is not built yet, at this place
 abbrev pub unbuilt : Place → Refusal
 unbuilt place = refusal_at (code_of S 0) place
 
--- by how the command ended
-abbrev pub reading_of_fate : Fate → ℕ → List ℕ → Reading
-reading_of_fate Whole line text = read_command line text
-reading_of_fate TooLong line text = refused (refusal_at (code_of K 1) (place_at line 1))
-reading_of_fate Unfinished line text = refused (refusal_at (code_of K 2) (place_at line 1))
+-- by how the command ended; its lines count from 0
+abbrev pub reading_of_fate : Fate → List ℕ → Reading
+reading_of_fate Whole text = read_command 0 text
+reading_of_fate TooLong text = refused (refusal_at (code_of K 1) (place_at 0 1))
+reading_of_fate Unfinished text = refused (refusal_at (code_of K 2) (place_at 0 1))
 
 -- what a command of the stream is read as that opens no file
 abbrev pub reading_of : Cut → Reading
-reading_of cut = reading_of_fate cut.fate cut.first_line cut.text
+reading_of cut = reading_of_fate cut.fate cut.text
 
--- the places of its first token and of the one behind it
+-- the places of its first token and of the one behind it, where it begins in a line
 abbrev pub start_of : ℕ → List Token → Start
-start_of line ts = record { first = place_of_first line ts; second = place_in ts 1 }
+start_of line ts = record { first = place_in_stream line (place_of_first 0 ts); second = place_in_stream line (place_in ts 1) }
 
 -- the word of a command stands behind `!`, where that is its first token
 abbrev pub has_kind : TokenKind → Option Token → Bool

@@ -1,4 +1,5 @@
 pub mod FileWords
+pub mod Lines
 pub mod Commands
 pub mod Shapes
 pub mod Readings
@@ -12,3 +13,4 @@ pub mod Reports
 pub mod Machine
 pub mod Kept
 pub mod Answering
+pub mod Prepared

@@ -54,6 +54,7 @@ use Rattle.use_session.specs.Commands.{is_exit, reading_of, start_of, unbuilt, w
 use Rattle.contract_texts.specs.ContractLines.{broken_line, is_met, post_line, pre_line}
 use Rattle.use_session.specs.FileWords.{file_name, first_place, is_open, judged}
 use Rattle.use_session.specs.Frames.{bound_by, top_bindings}
+use Rattle.use_session.specs.Lines.{fault_in, refusal_in}
 use Rattle.use_session.specs.Reports.{check_text, finds_nothing}
 use Rattle.use_session.specs.Resetting.{cleared}
 use Rattle.use_session.specs.Shell.{known}
@@ -169,13 +170,13 @@ faulted_after units m (fault.Refused r) = refused_after units m r
 faulted_after units m (fault.Broken r n v) = broken_after units m r n v
 faulted_after units m fault.Memory = accepted m [] units
 
--- `!` and statements: all of them, or none; the calls that are open stay open
-abbrev pub executed : Machine → Outcome execution.Machine ExecFault (Unit {0}) → Step
-executed m (Ok tt, x) = accepted (kept m x.progress.changes (record { state = x.progress.state; calls = open_calls m })) [] x.steps
-executed m (Err f, x) = faulted_after x.steps m f
+-- `!` and statements in a command that begins in a line: all of them, or none; the calls that are open stay open
+abbrev pub executed : Machine → ℕ → Outcome execution.Machine ExecFault (Unit {0}) → Step
+executed m line (Ok tt, x) = accepted (kept m x.progress.changes (record { state = x.progress.state; calls = open_calls m })) [] x.steps
+executed m line (Err f, x) = faulted_after x.steps m (fault_in line f)
 
-abbrev pub execute : Machine → List Stmt → List (List ℕ) → Step
-execute m body shell = executed m (exec m.program body shell (bound m) (diagram m) [])
+abbrev pub execute : Machine → ℕ → List Stmt → List (List ℕ) → Step
+execute m line body shell = executed m line (exec m.program body shell (bound m) (diagram m) [])
 
 -- what the evaluations of a command begin with that enters or leaves a call
 abbrev pub first : Machine → List (List ℕ) → execution.Machine
@@ -236,39 +237,41 @@ redone m at (next ∷ future) = silent (record m { timeline = timelines.redone m
 abbrev pub reset : Machine → Machine
 reset m = record m { timeline = record { past = []; present = record { state = cleared (present m); calls = [] }; future = [] } }
 
--- a checked command of a form that is built, whose word stands at a place
-abbrev pub carried_out : Machine → Start → Place → Checked → Step
-carried_out m at word (c.Query e t shell) = query m at.second e t shell
-carried_out m at word (c.Statements body shell) = execute m body shell
-carried_out m at word (c.Enter receiver op args shell) = enter m word receiver op args shell
-carried_out m at word (c.Exit e shell) = exit m word e shell
-carried_out m at word (c.Check detail) = check_step m detail
-carried_out m at word (c.Info topic) = accepted m (info_text m.program (present m) (open_calls m) topic) 0
-carried_out m at word c.Undo = undone m at.first m.timeline.past
-carried_out m at word c.Redo = redone m at.first m.timeline.future
-carried_out m at word c.Reset = silent (reset m)
-carried_out m at word c.Quit = ended_by m Quit
-carried_out m at word _ = silent m
+-- a checked command of a form that is built, which begins in a line, and whose word stands at a place
+abbrev pub carried_out : Machine → ℕ → Start → Place → Checked → Step
+carried_out m line at word (c.Query e t shell) = query m at.second e t shell
+carried_out m line at word (c.Statements body shell) = execute m line body shell
+carried_out m line at word (c.Enter receiver op args shell) = enter m word receiver op args shell
+carried_out m line at word (c.Exit e shell) = exit m word e shell
+carried_out m line at word (c.Check detail) = check_step m detail
+carried_out m line at word (c.Info topic) = accepted m (info_text m.program (present m) (open_calls m) topic) 0
+carried_out m line at word c.Undo = undone m at.first m.timeline.past
+carried_out m line at word c.Redo = redone m at.first m.timeline.future
+carried_out m line at word c.Reset = silent (reset m)
+carried_out m line at word c.Quit = ended_by m Quit
+carried_out m line at word _ = silent m
 
 -- rules of names and types come first, then forms that are not built, then the run of the command
-abbrev pub answered : Machine → Start → Place → Typing Checked → Step
-answered m at word (Err r) = refused m r
-answered m at word (Ok command) = if is_unbuilt command then refused m (unbuilt at.first) else carried_out m at word command
+abbrev pub answered : Machine → ℕ → Start → Place → Typing Checked → Step
+answered m line at word (Err r) = refused m (refusal_in line r)
+answered m line at word (Ok command) = if is_unbuilt command then refused m (unbuilt at.first) else carried_out m line at word command
 
 -- what a command is checked among
 abbrev pub checked : Machine → List ℕ → List Token → ParseTree → Typing Checked
 checked m text ts t = command_in m.program (known (present m)) (top_bindings m.program.model (open_calls m)) text ts t
 
 -- that no call is open which a command leaves is told before them
-abbrev pub answered_tree : Machine → Start → List ℕ → List Token → ParseTree → Step
-answered_tree m at text ts t =
-    if is_exit ts && nat_eq (length (open_calls m)) 0 then refused m (refusal_at (code_of C 3) (word_place at ts))
-    else answered m at (word_place at ts) (checked m text ts t)
+abbrev pub answered_at : Machine → ℕ → Start → Place → Bool → Typing Checked → Step
+answered_at m line at word exits command =
+    if exits && nat_eq (length (open_calls m)) 0 then refused m (refusal_at (code_of C 3) word) else answered m line at word command
+
+abbrev pub answered_tokens : Machine → ℕ → List Token → Typing Checked → Step
+answered_tokens m line ts command = answered_at m line (start_of line ts) (word_place (start_of line ts) ts) (is_exit ts) command
 
 -- rules of cuts, tokens and grammar come first of all
 abbrev pub answered_reading : Machine → ℕ → List ℕ → Reading → Step
-answered_reading m line text (unread r) = refused m r
-answered_reading m line text (read_as ts t) = answered_tree m (start_of line ts) text ts t
+answered_reading m line text (unread r) = refused m (refusal_in line r)
+answered_reading m line text (read_as ts t) = answered_tokens m line ts (checked m text ts t)
 
 -- `open F`: the name of the file that is wanted at a place, or the rule that it breaks
 abbrev pub opened : Machine → Place → Result (List ℕ) Code → Step

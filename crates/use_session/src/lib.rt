@@ -6,6 +6,7 @@ mod answers;
 mod bindings;
 mod exits;
 mod file_word;
+mod lines;
 mod machine;
 mod moments;
 mod noting;

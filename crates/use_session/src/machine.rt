@@ -13,17 +13,19 @@ ghost use Rattle.entry_states.specs.Frames.{opened as frame_of};
 ghost use Rattle.contract_frames.specs.Entering.{IsCall};
 ghost use Rattle.contract_frames.specs.Holding.{all_true};
 ghost use Rattle.contract_frames.specs.Judging.{pre_units, pres};
-ghost use Rattle.soil_check.specs.Checks.{AreNames, IsTopicOf};
+ghost use Rattle.soil_check.specs.Checks.{AreNames, IsCommandOf, IsTopicOf, TakesNames};
 ghost use Rattle.use_session.specs.Answering.{Answers, TellsFault, TellsFrameFault, TellsNoneLeft};
 ghost use Rattle.use_session.specs.Answers.{info_text};
 ghost use Rattle.use_session.specs.Kept.{IsKept, machine_of};
 ghost use Rattle.use_session.specs.FileWords.{file_name, first_place, is_open, judged};
 ghost use Rattle.use_session.specs.Machine.{accepted, answered, carried_out, check_step, checked, counts, diagram, enter, entered_unless, environment, execute, exit, left_by, max_open, open_calls, opened, query, redone, reset, scene, silent, start, turn_of_check, turn_of_posts, undone};
 ghost use Rattle.use_session.specs.Running.{MayRun};
+ghost use Rattle.use_session.specs.Prepared.{IsScopeAt};
 
 use crate::answers::{append_value_line, refuse, refuse_at, refuse_broken};
 use crate::bindings::{bound_values, top_bindings};
 use crate::file_word::{file_name, first_place, judged};
+use crate::lines::fault_in;
 use crate::moments::{carry_out_again, take_back};
 use crate::noting::{note_all, note_all_back};
 use crate::report::{append_check, finds_nothing};
@@ -118,6 +120,16 @@ fn entered(alloc: Global, call: &Call) -> Result<Frame, AllocError>
         call: call.try_copy(alloc)?,
         overlay: Overlay::new(alloc),
     })
+}
+
+fn copied_names(alloc: Global, names: &[Text]) -> Result<Items<Text>, AllocError>
+    ensures { IfOk result (λ all. all ≡ names.now) }
+{
+    let mut all = Items::new(alloc);
+    'names: for name in names {
+        all.push(Text::copy_of(alloc, name.as_str())?)?;
+    }
+    Ok(all)
 }
 
 /// Tells why statements are refused.
@@ -223,11 +235,23 @@ impl Machine {
         )
     }
 
+    /// What a command is checked among: the names of the present state.
+    pub(crate) fn scope(&self) -> Result<StoreScope<'_>, AllocError>
+        requires { IsKept self.now }
+        ensures { IfOk result (IsScopeAt (machine_of self.now)) }
+    {
+        Ok(StoreScope {
+            store: &self.store,
+            bindings: top_bindings(self.alloc, &self.program, &self.frames)?,
+        })
+    }
+
     /// Checks a command among the names of the present state.
     pub(crate) fn check(&self, parsed: &Parsed) -> Result<Checked, TypeFault>
         requires text { All (IsWithin (length parsed.now.text)) parsed.now.tokens }
         requires kept { IsKept self.now }
-        ensures fit { IfOk result (MayRun self.now.program.model) }
+        ensures of_model { IfOk result (IsCommandOf self.now.program.model) }
+        ensures names { IfOk result TakesNames }
         ensures checked { Tells (checked (machine_of self.now) parsed.now.text parsed.now.tokens (root_tree parsed.now.tree)) result }
     {
         self.store.state_is_valid();
@@ -295,6 +319,7 @@ impl Machine {
     /// `!` and statements.
     fn carry_out<L: Ledger>(
         &mut self,
+        line: u32,
         body: &[Stmt],
         shell: Items<Text>,
         out: &mut Vec<u8>,
@@ -303,7 +328,7 @@ impl Machine {
         requires body { IsBodyOf self.old.program.model body.now }
         requires names { AreNames shell }
         requires kept { IsKept self.old }
-        ensures { Answers (execute (machine_of self.old) body.now shell) out.old.items steps.old result self.new out.new.items steps.new }
+        ensures { Answers (execute (machine_of self.old) line body.now shell) out.old.items steps.old result self.new out.new.items steps.new }
     {
         self.store.state_is_valid();
         let bound = bound_values(self.alloc, &self.frames)?;
@@ -318,7 +343,7 @@ impl Machine {
             steps,
         );
         match done {
-            Err(fault) => tell(self.alloc, &self.program, fault, out),
+            Err(fault) => tell(self.alloc, &self.program, fault_in(line, fault), out),
             Ok(changes) => {
                 let model = self.program.model();
                 note_all(model, &mut self.structure, changes.as_slice())?;
@@ -616,37 +641,106 @@ impl Machine {
         Ok(Turn::Quiet)
     }
 
-    /// Carries a command out whose form is built.
-    fn answer_built<L: Ledger>(
+    /// `!` and statements, among names that are kept.
+    fn carry_out_among<L: Ledger>(
         &mut self,
-        at: Start,
-        word: Place,
-        command: Checked,
+        line: u32,
+        body: &[Stmt],
+        shell: &[Text],
         out: &mut Vec<u8>,
         steps: &mut Steps<L>,
     ) -> Result<Turn, AllocError>
-        requires fit { MayRun self.old.program.model command }
+        requires body { IsBodyOf self.old.program.model body.now }
+        requires names { AreNames shell.now }
         requires kept { IsKept self.old }
-        ensures { Answers (carried_out (machine_of self.old) at word command) out.old.items steps.old result self.new out.new.items steps.new }
+        ensures { Answers (execute (machine_of self.old) line body.now shell.now) out.old.items steps.old result self.new out.new.items steps.new }
+    {
+        let names = copied_names(self.alloc, shell)?;
+        self.carry_out(line, body, names, out, steps)
+    }
+
+    /// `openter`, among names that are kept.
+    fn enter_among<L: Ledger>(
+        &mut self,
+        word: Place,
+        receiver: &Expr,
+        op: OpNo,
+        args: &[Expr],
+        shell: &[Text],
+        out: &mut Vec<u8>,
+        steps: &mut Steps<L>,
+    ) -> Result<Turn, AllocError>
+        requires op { op < length self.old.program.model.ops }
+        requires receiver { IsSound receiver.now }
+        requires args { All IsSound args.now }
+        requires names { AreNames shell.now }
+        requires kept { IsKept self.old }
+        ensures { Answers (enter (machine_of self.old) word receiver.now op args.now shell.now) out.old.items steps.old result self.new out.new.items steps.new }
+    {
+        let names = copied_names(self.alloc, shell)?;
+        self.enter(word, receiver, op, args, names, out, steps)
+    }
+
+    /// `opexit`, among names that are kept.
+    fn exit_among<L: Ledger>(
+        &mut self,
+        word: Place,
+        e: Option<&Expr>,
+        shell: &[Text],
+        out: &mut Vec<u8>,
+        steps: &mut Steps<L>,
+    ) -> Result<Turn, AllocError>
+        requires tree { ForSome (option_copied e) IsSound }
+        requires names { AreNames shell.now }
+        requires kept { IsKept self.old }
+        ensures { Answers (exit (machine_of self.old) word (option_copied e.entry) shell.now) out.old.items steps.old result self.new out.new.items steps.new }
+    {
+        let names = copied_names(self.alloc, shell)?;
+        self.exit(word, e, names, out, steps)
+    }
+
+    /// Carries a command out whose form is built, and which begins in this line.
+    fn answer_built<L: Ledger>(
+        &mut self,
+        line: u32,
+        at: Start,
+        word: Place,
+        command: &Checked,
+        out: &mut Vec<u8>,
+        steps: &mut Steps<L>,
+    ) -> Result<Turn, AllocError>
+        requires fit { MayRun self.old.program.model command.now }
+        requires kept { IsKept self.old }
+        ensures { Answers (carried_out (machine_of self.old) line at word command.now) out.old.items steps.old result self.new out.new.items steps.new }
     {
         match command {
             Checked::Query {
                 expr,
                 of_type,
                 shell,
-            } => self.query(at.second, &expr, &of_type, shell.as_slice(), out, steps),
+            } => self.query(at.second, expr, of_type, shell.as_slice(), out, steps),
             Checked::Statements { body, shell } => {
-                self.carry_out(body.as_slice(), shell, out, steps)
+                self.carry_out_among(line, body.as_slice(), shell.as_slice(), out, steps)
             }
             Checked::Enter {
                 receiver,
                 op,
                 args,
                 shell,
-            } => self.enter(word, &receiver, op, args.as_slice(), shell, out, steps),
-            Checked::Exit { value, shell } => { self.exit(word, value.as_ref(), shell, out, steps) }
-            Checked::Check { detail } => self.judge(detail, out, steps),
-            Checked::Info(topic) => self.info(topic, out),
+            } => self.enter_among(
+                word,
+                receiver,
+                *op,
+                args.as_slice(),
+                shell.as_slice(),
+                out,
+                steps,
+            ),
+            Checked::Exit { value, shell } => {
+                self.exit_among(word, value.as_ref(), shell.as_slice(), out, steps)
+            }
+            Checked::Check { detail } => self.judge(*detail, out, steps),
+            Checked::Info(topic) => self.info(*topic, out),
             Checked::Undo => self.undo(at.first, out),
             Checked::Redo => self.redo(at.first, out),
             Checked::Reset => self.reset(),
@@ -655,22 +749,23 @@ impl Machine {
         }
     }
 
-    /// Carries a checked command out, and answers it.
+    /// Carries a checked command out that begins in this line, and answers it.
     pub(crate) fn answer<L: Ledger>(
         &mut self,
+        line: u32,
         at: Start,
         word: Place,
-        command: Checked,
+        command: &Checked,
         out: &mut Vec<u8>,
         steps: &mut Steps<L>,
     ) -> Result<Turn, AllocError>
-        requires fit { MayRun self.old.program.model command }
+        requires fit { MayRun self.old.program.model command.now }
         requires kept { IsKept self.old }
-        ensures { Answers (answered (machine_of self.old) at word (Ok command)) out.old.items steps.old result self.new out.new.items steps.new }
+        ensures { Answers (answered (machine_of self.old) line at word (Ok command.now)) out.old.items steps.old result self.new out.new.items steps.new }
     {
-        if is_unbuilt(&command) {
+        if is_unbuilt(command) {
             return refuse_at(Code::S0, at.first, out);
         }
-        self.answer_built(at, word, command, out, steps)
+        self.answer_built(line, at, word, command, out, steps)
     }
 }

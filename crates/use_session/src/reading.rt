@@ -28,12 +28,12 @@ pub(crate) enum Reading {
 }
 
 /// A command that was not cut out whole, by this rule.
-fn uncut(code: Code, line: u32) -> Reading
-    ensures { result ≡ Reading.Refused (refusal_at code (place_at line 1)) }
+fn uncut(code: Code) -> Reading
+    ensures { result ≡ Reading.Refused (refusal_at code (place_at 0 1)) }
 {
     Reading::Refused(Refusal {
         code,
-        place: Place { line, col: 1 },
+        place: Place { line: 0, col: 1 },
     })
 }
 
@@ -82,35 +82,23 @@ impl CommandReader {
         }
     }
 
-    fn read_command(
-        &mut self,
-        grammar: &Grammar,
-        text: &[u8],
-        line: u32,
-    ) -> Result<TokenTree, SyntaxFault>
+    fn read_command(&mut self, grammar: &Grammar, text: &[u8]) -> Result<TokenTree, SyntaxFault>
         requires table { grammar.now ≡ language }
         requires text { length text.now ≤ max_command }
-        requires line { line ≤ max_lines }
-        ensures reading { ReadsTree (read_command line text.now) result }
+        ensures reading { ReadsTree (read_command 0 text.now) result }
         ensures within { IfOk result (λ p. All (IsWithin (length text.now)) p.tokens) }
         ensures tree { IfOk result (λ p. IsTreeOf p.tokens p.tree) }
     {
-        let tokens = self.reader.lex(text, line)?;
+        let tokens = self.reader.lex(text, 0)?;
         self.read_tokens(grammar, tokens)
     }
 
-    fn read_text(
-        &mut self,
-        grammar: &Grammar,
-        text: &[u8],
-        line: u32,
-    ) -> Result<Reading, AllocError>
+    fn read_text(&mut self, grammar: &Grammar, text: &[u8]) -> Result<Reading, AllocError>
         requires table { grammar.now ≡ language }
         requires text { length text.now ≤ max_command }
-        requires line { line ≤ max_lines }
-        ensures { IfOk result (Reads text.now (read_command line text.now)) }
+        ensures { IfOk result (Reads text.now (read_command 0 text.now)) }
     {
-        match self.read_command(grammar, text, line) {
+        match self.read_command(grammar, text) {
             Ok(read) => Ok(Reading::Parsed(with_text(self.alloc, text, read)?)),
             Err(SyntaxFault::Refused(refusal)) => Ok(Reading::Refused(refusal)),
             Err(SyntaxFault::Memory) => Err(AllocError),
@@ -124,9 +112,9 @@ impl CommandReader {
         ensures { IfOk result (Reads cut.now.text (reading_of cut.now)) }
     {
         match cut.fate {
-            Fate::Whole => self.read_text(grammar, cut.text.as_slice(), cut.first_line),
-            Fate::TooLong => Ok(uncut(Code::K1, cut.first_line)),
-            Fate::Unfinished => Ok(uncut(Code::K2, cut.first_line)),
+            Fate::Whole => self.read_text(grammar, cut.text.as_slice()),
+            Fate::TooLong => Ok(uncut(Code::K1)),
+            Fate::Unfinished => Ok(uncut(Code::K2)),
         }
     }
 

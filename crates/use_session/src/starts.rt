@@ -2,6 +2,7 @@ ghost use Rattle.std.specs.Prelude.{◌≡◌};
 ghost use Rattle.use_syntax.specs.Reading.{place_in};
 ghost use Rattle.use_session.specs.Commands.{start_of};
 
+use crate::lines::place_in_stream;
 use use_nodes::place_of_first;
 use use_text::{Place, Token};
 
@@ -22,12 +23,12 @@ fn second_place(tokens: &[Token]) -> Place
     }
 }
 
-/// Where a command of these tokens stands.
+/// Where a command of these tokens stands that begins in this line.
 pub(crate) fn start_of(line: u32, tokens: &[Token]) -> Start
     ensures { result ≡ start_of line tokens.now }
 {
     Start {
-        first: place_of_first(line, tokens),
-        second: second_place(tokens),
+        first: place_in_stream(line, place_of_first(0, tokens)),
+        second: place_in_stream(line, second_place(tokens)),
     }
 }

@@ -1,6 +1,8 @@
 use Rattle.std.proofs.Common.{ℕ, ◌≤◌, List, subst}
 use Rattle.object_state.specs.declared.change.Change.{Change}
 use Rattle.object_state.specs.Looks.{look}
+use Rattle.soil_exec.specs.declared.fault.ExecFault.{ExecFault}
+use Rattle.use_session.specs.Answering.{TellsFault}
 use Rattle.use_session.proofs.Executed.{executed_answers, fault_answers}
 use Rattle.use_session.proofs.Framed.{as_many, top_is_call}
 use Rattle.use_session.proofs.Keeping.{present_proper}
@@ -24,7 +26,7 @@ returns-in_ok-note_all-in-Ok g c =
     c.in_ok-note_all-in-Ok.ensures in
     let stands = noted k c.requires.kept c.in-Ok.changes c.model-model.result.now c.note_all.new.structure c.execute-done.new.store.state
     c.model-model.ensures c.in-Ok.ensures.lead told in
-    executed_answers k c.requires.kept c.state_is_valid.ensures c.args.body.now c.args.shell c.in_ok-bound.bound.items
+    executed_answers k c.requires.kept c.state_is_valid.ensures c.args.line c.args.body.now c.args.shell c.in_ok-bound.bound.items
     (c.in_ok-bound.ensures.values (look k.store.layout k.store.state)) c.args.out.now.items c.args.steps.now c.in-Ok.changes c.execute-done.new.store
     c.execute-done.new.frames c.execute-done.new.steps c.in-Ok.ensures.told c.in-Ok.ensures.layout c.in-Ok.ensures.lead c.in-Ok.ensures.typed
     c.note_all.new.structure stands c.keep.new.history c.keep.ensures
@@ -32,6 +34,7 @@ returns-in_ok-note_all-in-Ok g c =
 pub returns-in-Err : goal.returns-in-Err
 returns-in-Err g c =
     let k = c.args.self.now in
-    fault_answers k c.requires.kept c.state_is_valid.ensures c.args.body.now c.args.shell c.in_ok-bound.bound.items
+    fault_answers k c.requires.kept c.state_is_valid.ensures c.args.line c.args.body.now c.args.shell c.in_ok-bound.bound.items
     (c.in_ok-bound.ensures.values (look k.store.layout k.store.state)) c.args.out.now.items c.args.steps.now c.in-Err.fault c.execute-done.new.store
-    c.execute-done.new.frames c.execute-done.new.steps c.in-Err.ensures.told c.tell.result c.tell.new.out.items c.tell.ensures
+    c.execute-done.new.frames c.execute-done.new.steps c.in-Err.ensures.told c.tell.result c.tell.new.out.items
+    (subst (λ (f : ExecFault). TellsFault k.program f c.args.out.now.items c.tell.result c.tell.new.out.items) c.fault_in.ensures c.tell.ensures)
