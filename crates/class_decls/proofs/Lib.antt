@@ -5,3 +5,5 @@ pub mod TextSets
 pub mod Backward
 pub mod Outside
 pub mod Given
+pub mod Distinct
+pub mod Untied

@@ -3,3 +3,4 @@ pub mod Entries
 pub mod Names
 pub mod References
 pub mod Limits
+pub mod Different

@@ -2,6 +2,7 @@
 #![tactic(auto)]
 
 mod decls;
+mod different;
 mod entry;
 mod limits;
 mod name_set;

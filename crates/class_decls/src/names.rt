@@ -5,6 +5,7 @@ ghost use Rattle.class_decls.specs.Names.{cond_entries, cond_space, entry, given
 ghost use Rattle.class_decls.specs.Names.{name_declared_twice, operation_declared_twice, param_entries, params_of, parent_named_twice, type_entries};
 ghost use Rattle.class_decls.specs.declared.entry.Space.TheVariants as s;
 
+use crate::different::names_differ;
 use crate::entry::{add_entries, entry_of, predeclared};
 use crate::repeats::declared_again;
 use crate::{ClassDecl, CondDecl, CondKind, Decls, Entry, EnumDecl, Name, OpDecl, OpOf, Space};
@@ -16,7 +17,7 @@ use use_text::Place;
 pub(crate) static PLAIN_TYPES: [&str; 5] = ["Boolean", "Integer", "String", "OclAny", "OclVoid"];
 
 /// What bodies and contracts call the receiver and the result.
-static BOUND_NAMES: [&str; 2] = ["self", "result"];
+pub(crate) static BOUND_NAMES: [&str; 2] = ["self", "result"];
 
 /// The name of the operation whose contract it is, where contexts name these heads. Past their list
 /// it is empty.
@@ -178,15 +179,19 @@ fn add_ops(alloc: Global, classes: &[ClassDecl], names: &mut Vec<Entry>) -> Resu
     Ok(())
 }
 
-/// M1: the first name that is declared for the second time in its space.
-pub fn name_declared_twice(alloc: Global, decls: &Decls) -> Result<Option<Place>, AllocError>
+/// The first name that is declared for the second time in its space, where these are the heads.
+fn first_declared_again(
+    alloc: Global,
+    decls: &Decls,
+    ops: &[&OpDecl],
+) -> Result<Option<Place>, AllocError>
+    requires { map (λ h. h.now) ops.now ≡ heads decls.now }
     ensures { IfOk result (λ place. place ≡ name_declared_twice decls.now) }
 {
     let mut names = Vec::new(alloc);
-    let heads = heads(alloc, decls)?;
     add_types(alloc, decls, &mut names)?;
     add_literals(alloc, decls.enums.as_slice(), &mut names)?;
-    add_params(alloc, heads.as_slice(), &mut names)?;
+    add_params(alloc, ops, &mut names)?;
     add_conds(
         alloc,
         decls.context_heads.as_slice(),
@@ -195,6 +200,19 @@ pub fn name_declared_twice(alloc: Global, decls: &Decls) -> Result<Option<Place>
     )?;
     let place = declared_again(names)?;
     Ok(place)
+}
+
+/// M1: the first name that is declared for the second time in its space. Names are put in order only
+/// where they are not told apart by their texts alone.
+pub fn name_declared_twice(alloc: Global, decls: &Decls) -> Result<Option<Place>, AllocError>
+    ensures { IfOk result (λ place. place ≡ name_declared_twice decls.now) }
+{
+    let heads = heads(alloc, decls)?;
+    let differ = names_differ(alloc, decls, heads.as_slice())?;
+    if differ {
+        return Ok(None);
+    }
+    first_declared_again(alloc, decls, heads.as_slice())
 }
 
 /// M3: the first parent that a class names for the second time.

@@ -5,49 +5,35 @@ ghost use Rattle.class_decls.specs.References.{places_outside, type_references, 
 ghost use Rattle.class_decls.specs.Texts.{has_text};
 ghost use Rattle.std.specs.List.{flat_map};
 
-use crate::entry::add_texts;
 use crate::name_set::NameSet;
 use crate::names::{PLAIN_TYPES, heads};
 use crate::repeats::earlier;
 use crate::{AssocDecl, ClassDecl, CondDecl, Decls, Name, OpDecl};
-use ocl_values::Text;
 use std::alloc::{AllocError, Global};
 use use_text::Place;
 
-fn add_plain_types(alloc: Global, names: &[&str], texts: &mut Vec<Text>) -> Result<(), AllocError>
-    ensures { OnOk result (texts.new.items ≡ texts.old.items ++ map (λ t. t.now) names.now) }
-{
-    'names: for name in names {
-        let text = Text::copy_of(alloc, name)?;
-        texts.push(text)?;
-    }
-    Ok(())
-}
-
 /// The names of classes.
-fn class_names(alloc: Global, decls: &Decls) -> Result<NameSet, AllocError>
+fn class_names<'a>(alloc: Global, decls: &'a Decls) -> Result<NameSet<'a>, AllocError>
     ensures { IfOk result (λ s. (t : List ℕ) → has_text s t ≡ is_class decls.now t) }
 {
-    let mut texts = Vec::new(alloc);
-    add_texts(alloc, decls.classes.as_slice(), &mut texts)?;
-    let names = NameSet::of(texts)?;
+    let mut names = NameSet::new(alloc);
+    names.add_names(decls.classes.as_slice())?;
     Ok(names)
 }
 
 /// The names of types.
-fn type_names(alloc: Global, decls: &Decls) -> Result<NameSet, AllocError>
+fn type_names<'a>(alloc: Global, decls: &'a Decls) -> Result<NameSet<'a>, AllocError>
     ensures { IfOk result (λ s. (t : List ℕ) → has_text s t ≡ is_type decls.now t) }
 {
-    let mut texts = Vec::new(alloc);
-    add_plain_types(alloc, &PLAIN_TYPES, &mut texts)?;
-    add_texts(alloc, decls.enums.as_slice(), &mut texts)?;
-    add_texts(alloc, decls.classes.as_slice(), &mut texts)?;
-    let names = NameSet::of(texts)?;
+    let mut names = NameSet::new(alloc);
+    names.add_texts(&PLAIN_TYPES)?;
+    names.add_names(decls.enums.as_slice())?;
+    names.add_names(decls.classes.as_slice())?;
     Ok(names)
 }
 
 /// The first place of those of names that are not known and of one more.
-fn first_outside(known: &NameSet, names: &[&Name], more: Option<Place>) -> Option<Place>
+fn first_outside(known: &NameSet<'_>, names: &[&Name], more: Option<Place>) -> Option<Place>
     ensures { result ≡ first_of more (places_outside (has_text known.now) (map (λ n. n.now) names.now)) }
 {
     let mut first = more;
@@ -177,10 +163,13 @@ fn type_references<'a>(alloc: Global, decls: &'a Decls) -> Result<Vec<&'a Name>,
 pub fn unknown_type(alloc: Global, decls: &Decls) -> Result<Option<Place>, AllocError>
     ensures { IfOk result (λ place. place ≡ unknown_type decls.now) }
 {
-    let classes = class_names(alloc, decls)?;
-    let types = type_names(alloc, decls)?;
     let of_classes = class_references(alloc, decls)?;
     let of_types = type_references(alloc, decls)?;
+    if of_classes.is_empty() && of_types.is_empty() {
+        return Ok(None);
+    }
+    let classes = class_names(alloc, decls)?;
+    let types = type_names(alloc, decls)?;
     let first = first_outside(&types, of_types.as_slice(), None);
     Ok(first_outside(&classes, of_classes.as_slice(), first))
 }
