@@ -16,3 +16,4 @@ pub mod Grouped
 pub mod ByName
 pub mod Disputed
 pub mod SharedNames
+pub mod Unnamed

@@ -1,10 +1,11 @@
 -- The numbers of classes, and cycles of inheritance.
+use denote.Ref.{Bor}
 use Rattle.std.specs.Prelude.{ℕ, zero, suc, Bool, true, not, ◌&&◌, ◌||◌, nat_eq, nat_lt, if◌then◌else◌, List, [], ◌∷◌, ◌++◌}
 use Rattle.std.specs.Prelude.{map, take, length, Option, Some, None, slice_get, slice_index_or, unwrap_or}
-use Rattle.std.specs.declared.string.String.{String}
 use Rattle.std.specs.List.{filter_map, list_all, list_any, position_from}
-use Rattle.std.specs.HashMap.{HashMap, get_by_text}
+use Rattle.std.specs.HashMap.{HashMap, get_by}
 use Rattle.std.specs.Option.{option_and_then, option_map, option_map_or, option_or}
+use Rattle.std.specs.Str.{bytes_eq}
 use Rattle.use_text.specs.declared.place.Place.{Place}
 use Rattle.class_decls.specs.declared.decls.Decls.{Decls}
 use Rattle.class_decls.specs.Texts.{same_text}
@@ -18,8 +19,8 @@ abbrev pub parent_places : Decls → List (List ℕ)
 parent_places ds = map (λ c. filter_map (λ p. class_at ds p.text) c.parents) ds.classes
 
 -- the place of a name in a map
-abbrev pub place_in : {Y S : Type 0} → HashMap (String Y) ℕ S → List ℕ → Option ℕ
-place_in m t = get_by_text m t
+abbrev pub place_in : {S : Type 0} → HashMap (Bor (List ℕ)) ℕ S → List ℕ → Option ℕ
+place_in m t = get_by (λ k. bytes_eq t k.now) m
 
 abbrev pub some_if : Bool → ℕ → Option ℕ
 some_if b n = if b then Some n else None

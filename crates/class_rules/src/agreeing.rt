@@ -33,18 +33,18 @@ fn all_ops<'a>(alloc: Global, classes: &'a [ClassDecl]) -> Result<Vec<&'a OpDecl
 }
 
 /// Where the first operation of each name stands.
-fn first_places(alloc: Global, ops: &[&OpDecl]) -> Result<Places, AllocError>
+fn first_places<'a>(alloc: Global, ops: &[&'a OpDecl]) -> Result<Places<'a>, AllocError>
     ensures { IfOk result (λ m. (t : List ℕ) → place_in m t ≡ position_from (λ op. same_text op.name.text t) 0 (map (λ op. op.now) ops.now)) }
 {
     let mut places = HashMap::new(alloc);
     'ops: for (i, op) in ops.iter().enumerate() {
-        add_place(alloc, &mut places, op.name.text.as_str(), i)?;
+        add_place(&mut places, op.name.text.as_str(), i)?;
     }
     Ok(places)
 }
 
 /// Whether an operation has the signature of the first of its name.
-fn is_as_first(ops: &[&OpDecl], places: &Places, op: &OpDecl) -> bool
+fn is_as_first(ops: &[&OpDecl], places: &Places<'_>, op: &OpDecl) -> bool
     requires { (t : List ℕ) → place_in places.now t ≡ position_from (λ op. same_text op.name.text t) 0 (map (λ op. op.now) ops.now) }
     ensures { result ≡ is_as_first (map (λ op. op.now) ops.now) op.now }
 {
@@ -57,7 +57,7 @@ fn is_as_first(ops: &[&OpDecl], places: &Places, op: &OpDecl) -> bool
     }
 }
 
-fn all_as_first(all: &[&OpDecl], places: &Places, ops: &[&OpDecl]) -> bool
+fn all_as_first(all: &[&OpDecl], places: &Places<'_>, ops: &[&OpDecl]) -> bool
     requires { (t : List ℕ) → place_in places.now t ≡ position_from (λ op. same_text op.name.text t) 0 (map (λ op. op.now) all.now) }
     ensures { result ≡ list_all (is_as_first (map (λ op. op.now) all.now)) (map (λ op. op.now) ops.now) }
 {

@@ -16,13 +16,13 @@ const MOST_PARAMS: usize = 16;
 const MOST_CONTRACTS: usize = 64;
 
 /// How many of some texts are names.
-fn count_among(texts: &[Text], names: &NameSet) -> usize
+fn count_among(texts: &[Text], names: &NameSet<'_>) -> usize
     ensures { result ≡ count_by (has_text names.now) texts.now }
 {
     texts.iter().filter(|text| names.contains(text)).count()
 }
 
-fn has_too_many(index: &Index<'_>, names: &NameSet, op: &OpDecl) -> bool
+fn has_too_many(index: &Index<'_>, names: &NameSet<'_>, op: &OpDecl) -> bool
     ensures { result ≡ (nat_lt 16 (length op.now.params) || nat_lt 64 (count_by (has_text names.now) (contract_classes index.now op.now.name.text))) }
 {
     let contracts = count_among(index.contract_classes(&op.name.text), names);
@@ -31,7 +31,7 @@ fn has_too_many(index: &Index<'_>, names: &NameSet, op: &OpDecl) -> bool
 
 /// The first operation of a class that has too many parameters, or too many contracts in the
 /// contexts of classes of some names.
-fn first_with_too_many(index: &Index<'_>, names: &NameSet, class: &ClassDecl) -> Option<Place>
+fn first_with_too_many(index: &Index<'_>, names: &NameSet<'_>, class: &ClassDecl) -> Option<Place>
     ensures { result ≡ first_op (λ op. nat_lt 16 (length op.params)
         || nat_lt 64 (count_by (has_text names.now) (contract_classes index.now op.name.text))) class.now }
 {
@@ -42,14 +42,14 @@ fn first_with_too_many(index: &Index<'_>, names: &NameSet, class: &ClassDecl) ->
 }
 
 /// The names of classes.
-fn class_names(alloc: Global, classes: &[&ClassDecl]) -> Result<NameSet, AllocError>
+fn class_names<'a>(alloc: Global, classes: &[&'a ClassDecl]) -> Result<NameSet<'a>, AllocError>
     ensures { IfOk result (λ s. (t : List ℕ) → has_text s t ≡ has_text (map (λ c. c.now.name.text) classes.now) t) }
 {
-    let mut names = Vec::new(alloc);
+    let mut names = NameSet::new(alloc);
     'classes: for class in classes {
-        names.push(Text::copy_of(alloc, class.name.text.as_str())?)?;
+        names.add(class.name.text.as_str())?;
     }
-    NameSet::of(names)
+    Ok(names)
 }
 
 /// The first operation of a class, given with its ancestors, that has too many parameters or

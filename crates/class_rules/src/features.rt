@@ -1,10 +1,10 @@
-ghost use Rattle.std.specs.Prelude.{◌≡◌, ◌++◌, ◌||◌, IfOk, OnOk, map, nat_lt, length};
+ghost use Rattle.std.specs.Prelude.{◌≡◌, ◌++◌, ◌||◌, List, ℕ, IfOk, OnOk, map, nat_lt, length};
 ghost use Rattle.std.specs.Cmp.Lexicographic.{slice_cmp};
 ghost use Rattle.std.specs.Ordering.{nat_cmp};
 ghost use Rattle.use_orders.specs.Canon.{set_of};
 ghost use Rattle.std.specs.List.{flat_map};
 ghost use Rattle.class_rules.specs.Features.{attrs_of, has_role_clash, meet, ops_of, roles_of};
-ghost use Rattle.class_decls.specs.Texts.{repeats};
+ghost use Rattle.class_decls.specs.Texts.{has_text, repeats};
 
 use crate::index::Index;
 use class_decls::{ClassDecl, NameSet, add_texts};
@@ -92,11 +92,22 @@ pub(crate) fn meets_attribute_twice(alloc: Global, above: &[&ClassDecl]) -> Resu
     Ok(twice)
 }
 
-/// Whether two lists have a text in common.
-fn meet(texts: &[Text], others: Vec<Text>) -> Result<bool, AllocError>
-    ensures { IfOk result (λ b. b ≡ meet texts.now others.items) }
+/// The set of some names.
+fn name_set<'a>(alloc: Global, names: &'a [Text]) -> Result<NameSet<'a>, AllocError>
+    ensures { IfOk result (λ s. (t : List ℕ) → has_text s t ≡ has_text names.now t) }
 {
-    let others = NameSet::of(others)?;
+    let mut found = NameSet::new(alloc);
+    'names: for name in names {
+        found.add(name.as_str())?;
+    }
+    Ok(found)
+}
+
+/// Whether two lists have a text in common.
+fn meet(alloc: Global, texts: &[Text], others: &[Text]) -> Result<bool, AllocError>
+    ensures { IfOk result (λ b. b ≡ meet texts.now others.now) }
+{
+    let others = name_set(alloc, others)?;
     Ok(texts.iter().any(|text| others.contains(text)))
 }
 
@@ -110,7 +121,7 @@ pub(crate) fn role_clashes(
 {
     let roles = role_texts(alloc, index, above)?;
     let attrs = attr_texts(alloc, above)?;
-    let meets = meet(roles.as_slice(), attrs)?;
+    let meets = meet(alloc, roles.as_slice(), attrs.as_slice())?;
     let twice = has_repeat(roles)?;
     Ok(twice || meets)
 }

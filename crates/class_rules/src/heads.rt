@@ -19,7 +19,7 @@ use use_text::Place;
 #[derive(Drop)]
 struct Declared<'a> {
     decls: &'a Decls,
-    places: Places,
+    places: Places<'a>,
     ops: Items<Groups<&'a OpDecl>>,
 }
 
@@ -109,6 +109,9 @@ fn first_undeclared(declared: &Declared<'_>, conds: &[CondDecl]) -> Option<Place
 pub(crate) fn no_such_operation(alloc: Global, decls: &Decls) -> Result<Option<Place>, AllocError>
     ensures { IfOk result (λ place. place ≡ no_such_operation decls.now) }
 {
+    if decls.context_heads.is_empty() {
+        return Ok(None);
+    }
     let places = class_places(alloc, decls)?;
     let ops = ops_of_all(alloc, decls.classes.as_slice())?;
     let declared = Declared {

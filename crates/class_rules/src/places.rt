@@ -1,8 +1,6 @@
 ghost use Rattle.std.specs.Prelude.{◌≡◌, [], ◌++◌, List, ℕ, IfOk, OnOk, Some, map};
 ghost use Rattle.std.specs.List.{cons_option, filter_map, position_from};
-ghost use Rattle.std.specs.Map.{update};
 ghost use Rattle.std.specs.Option.{option_or};
-ghost use Rattle.std.specs.Str.{bytes_eq};
 ghost use Rattle.class_rules.specs.Numbering.{class_at, parent_places, place_in, some_if};
 ghost use Rattle.class_decls.specs.Texts.{same_text};
 
@@ -14,22 +12,12 @@ use use_lists::Items;
 
 /// Where the classes of names stand. Nothing asks for their order, and a look costs one comparison
 /// of names.
-pub(crate) type Places = HashMap<String, usize>;
-
-/// Puts a place at a name, of which it makes a copy.
-fn put_place(alloc: Global, places: &mut Places, text: &str, place: usize) -> Result<(), AllocError>
-    ensures { OnOk result ((t : List ℕ) → place_in places.new t ≡ update bytes_eq (place_in places.old) text.now (Some place) t) }
-{
-    let name = String::from_str(alloc, text)?;
-    places.insert(name, place)?;
-    Ok(())
-}
+pub(crate) type Places<'a> = HashMap<&'a str, usize>;
 
 /// A name stands at this place, unless it stands at another already.
-pub(crate) fn add_place(
-    alloc: Global,
-    places: &mut Places,
-    text: &str,
+pub(crate) fn add_place<'a>(
+    places: &mut Places<'a>,
+    text: &'a str,
     place: usize,
 ) -> Result<(), AllocError>
     ensures { OnOk result ((t : List ℕ) → place_in places.new t ≡ option_or (place_in places.old t) (some_if (same_text text.now t) place)) }
@@ -37,28 +25,29 @@ pub(crate) fn add_place(
     if places.contains_key(text) {
         return Ok(());
     }
-    put_place(alloc, places, text, place)
+    places.insert(text, place)?;
+    Ok(())
 }
 
 /// Where the class or operation of a name stands.
-pub(crate) fn place_of(places: &Places, name: &Text) -> Option<usize>
+pub(crate) fn place_of(places: &Places<'_>, name: &Text) -> Option<usize>
     ensures { result ≡ place_in places.now name.now }
 {
     places.get(name.as_str()).copied()
 }
 
-fn places_of(alloc: Global, classes: &[ClassDecl]) -> Result<Places, AllocError>
+fn places_of<'a>(alloc: Global, classes: &'a [ClassDecl]) -> Result<Places<'a>, AllocError>
     ensures { IfOk result (λ m. (t : List ℕ) → place_in m t ≡ position_from (λ c. same_text c.name.text t) 0 classes.now) }
 {
     let mut places = HashMap::new(alloc);
     'classes: for (i, class) in classes.iter().enumerate() {
-        add_place(alloc, &mut places, class.name.text.as_str(), i)?;
+        add_place(&mut places, class.name.text.as_str(), i)?;
     }
     Ok(places)
 }
 
 /// Where the classes stand.
-pub(crate) fn class_places(alloc: Global, decls: &Decls) -> Result<Places, AllocError>
+pub(crate) fn class_places<'a>(alloc: Global, decls: &'a Decls) -> Result<Places<'a>, AllocError>
     ensures { IfOk result (λ m. (t : List ℕ) → place_in m t ≡ class_at decls.now t) }
 {
     places_of(alloc, decls.classes.as_slice())
@@ -76,7 +65,11 @@ fn add_found(place: Option<usize>, found: &mut Vec<usize>) -> Result<(), AllocEr
     }
 }
 
-fn parents_in(alloc: Global, places: &Places, parents: &[Name]) -> Result<Vec<usize>, AllocError>
+fn parents_in(
+    alloc: Global,
+    places: &Places<'_>,
+    parents: &[Name],
+) -> Result<Vec<usize>, AllocError>
     ensures { IfOk result (λ v. v.items ≡ filter_map (λ p. place_in places.now p.text) parents.now) }
 {
     let mut found = Vec::new(alloc);
@@ -88,7 +81,7 @@ fn parents_in(alloc: Global, places: &Places, parents: &[Name]) -> Result<Vec<us
 
 fn all_parents(
     alloc: Global,
-    places: &Places,
+    places: &Places<'_>,
     classes: &[ClassDecl],
 ) -> Result<Vec<Items<usize>>, AllocError>
     ensures { IfOk result (λ v. v.items ≡ map (λ c. filter_map (λ p. place_in places.now p.text) c.parents) classes.now) }
