@@ -3,7 +3,7 @@ ghost use Rattle.use_syntax.specs.Language.{language};
 
 use crate::texts::{decls_of, language};
 use class_decls::{
-    CondDecl, CondKind, Decls, NameSet, OpDecl, add_texts, bad_multiplicity, head_in,
+    CondDecl, CondKind, Decls, NameSet, OpDecl, bad_multiplicity, head_in,
     name_declared_twice, op_text, operation_declared_twice, parent_named_twice, too_many_assocs,
     too_many_classes, too_many_invariants, too_many_literals, unknown_type,
 };
@@ -54,9 +54,10 @@ fn has_its_contract(decls: &Decls) -> bool {
 
 /// Whether a set of names holds the names of the classes, and no other.
 fn holds_its_names(alloc: Global, decls: &Decls) -> Result<bool, AllocError> {
-    let mut texts = Vec::new(alloc);
-    add_texts(alloc, decls.classes.as_slice(), &mut texts)?;
-    let names = NameSet::of(texts)?;
+    let mut names = NameSet::new(alloc);
+    'classes: for class in decls.classes.as_slice() {
+        names.add(class.name.text.as_str())?;
+    }
     let there = names.contains(&Text::copy_of(alloc, "D")?);
     let not_there = names.contains(&Text::copy_of(alloc, "d")?);
     Ok(there && !not_there)
