@@ -1,5 +1,5 @@
 -- Operations of integers, by the integers that their operands are.
-use Rattle.std.proofs.Common.{◌≡◌, ℕ, ℤ, suc, ◌-◌, ◌<◌, true, cond, is_some, nat_le, List, Option, Some, None, unwrap_or, refl, ap, ◌∙◌, arith}
+use Rattle.std.proofs.Common.{◌≡◌, ℕ, ℤ, suc, ◌-◌, ◌<◌, ◌≤◌, true, cond, get_or, is_some, length, nat_le, List, [], ◌∷◌, Option, Some, None, unwrap_or, refl, sym, ap, ap₂, ◌∙◌, arith}
 use Rattle.std.specs.Option.{option_and_then}
 use Rattle.std.proofs.lemmas.Bool.{le-leb}
 use Rattle.ocl_values.specs.Integers.{int_op_value}
@@ -13,12 +13,13 @@ use Rattle.ocl_core.specs.declared.expression.Expr.TheOpen.{Expr-F}
 use Rattle.ocl_core.specs.declared.operators.BinaryOp.TheVariants as B
 use Rattle.ocl_core.specs.declared.operators.When.{When}
 use Rattle.ocl_core.specs.Trees.{Layer}
-use Rattle.ocl_operations.specs.Operators.{decided}
 use Rattle.ocl_eval.specs.declared.meter.Meter.{Meter}
 use Rattle.ocl_eval.specs.Evaluation.{ev}
-use Rattle.ocl_eval.specs.Evaluations.{Evaluation, Outcome, ◌>>=◌, pay, pure, spend, then_with}
+use Rattle.ocl_eval.specs.Evaluations.{Evaluation, Outcome, ◌>>=◌, ◌>>◌, pay, pure, spend, then_with}
 use Rattle.ocl_eval.specs.Integers.{at_hand, at_hand_in, integer, integer_in, integers, of_integers, ready, small, small_ready}
-use Rattle.ocl_eval.specs.Nodes.{binary, layer, node, right}
+use Rattle.ocl_core.specs.declared.operators.PlainOp.{PlainOp}
+use Rattle.ocl_operations.specs.Operators.{decided, plain_value}
+use Rattle.ocl_eval.specs.Nodes.{applied, binary, layer, node, plain, plain_ready, right, values}
 use Rattle.ocl_eval.specs.Scenes.{Scene}
 use Rattle.ocl_eval.proofs.Depth.{deeper}
 
@@ -154,3 +155,46 @@ module _ (w : Value) (m : Meter) (some : 0 < m.fuel) where
       by : (o : Option Value) → at_hand env x ≡ o → option_and_then small o ≡ Some w → ev s levels at env x m ≡ spent
       by None e h = absurd (cc)
       by (Some v) e h = at_hand_gives v m s levels at env x more e ∙ small_paid v h
+
+-- ---- an operation of a source and an argument that stand ready
+
+onto : {A : Type 0} (o : Outcome (Unit {0})) (x : Value) (f : Value → Evaluation A) → then_with (then_with o (λ _. pure x)) f ≡ then_with o (λ _. f x)
+onto (Some u, m) x f = refl
+onto (None, m) x f = refl
+
+onto_list : {A : Type 0} (o : Outcome (Unit {0})) (x : Value) (f : List Value → Evaluation A)
+    → then_with (then_with (then_with (then_with o (λ _. pure x)) (λ y. pure (y ∷ []))) pure) f ≡ then_with o (λ _. f (x ∷ []))
+onto_list (Some u, m) x f = refl
+onto_list (None, m) x f = refl
+
+alike : {A : Type 0} (o : Outcome (Unit {0})) (f g : Evaluation A) → ((m : Meter) → f m ≡ g m) → then_with o (λ _. f) ≡ then_with o (λ _. g)
+alike (Some u, m) f g h = h m
+alike (None, m) f g h = refl
+
+module _ (s : Scene) (levels : ℕ) (at : When) (env : List Value) (op : PlainOp) (a b : Expr) (x y : Value) (more : 0 < levels)
+    (first : at_hand env a ≡ Some x) (second : at_hand env b ≡ Some y) where
+  argument : (m : Meter) → applied (ev s levels at) env (plain_value op) x (b ∷ []) m ≡ (spend (size_of y) >> pay (plain_value op x (y ∷ []))) m
+  unfolding values
+  argument m =
+      ap (λ o. then_with (then_with (then_with o (λ v. pure (v ∷ []))) pure) (λ xs. pay (plain_value op x xs))) (at_hand_gives y m s levels at env b more second)
+      ∙ onto_list (spend (size_of y) m) y (λ xs. pay (plain_value op x xs))
+
+  -- neither is evaluated, and both are paid
+  pub both_gives : (m : Meter) → plain (ev s levels at) env op (a ∷ b ∷ []) m ≡ plain_ready op x y m
+  unfolding plain
+  both_gives m =
+      ap (λ o. then_with o (λ v. applied (ev s levels at) env (plain_value op) v (b ∷ []))) (at_hand_gives x m s levels at env a more first)
+      ∙ onto (spend (size_of x) m) x (λ v. applied (ev s levels at) env (plain_value op) v (b ∷ []))
+      ∙ alike (spend (size_of x) m) (applied (ev s levels at) env (plain_value op) x (b ∷ [])) (spend (size_of y) >> pay (plain_value op x (y ∷ []))) argument
+      ∙ turned (spend (size_of x) m)
+    where
+      turned : (o : Outcome (Unit {0})) → then_with o (λ _. spend (size_of y) >> pay (plain_value op x (y ∷ [])))
+          ≡ then_with (then_with o (λ _. spend (size_of y))) (λ _. pay (plain_value op x (y ∷ [])))
+      turned (Some u, m) = refl
+      turned (None, m) = refl
+
+pub two_items : {A : Type 0} (xs : List A) (a b : A) → 2 ≤ length xs → length xs < 3 → a ≡ get_or xs 0 a → b ≡ get_or xs 1 b → xs ≡ a ∷ b ∷ []
+two_items [] a b h k p q = absurd (omega arith)
+two_items (x ∷ []) a b h k p q = absurd (omega arith)
+two_items (x ∷ y ∷ []) a b h k p q = ap₂ (λ u v. u ∷ v ∷ []) (sym p) (sym q)
+two_items (x ∷ y ∷ z ∷ xs) a b h k p q = absurd (omega arith)

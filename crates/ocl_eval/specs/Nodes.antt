@@ -1,6 +1,6 @@
 -- The rule of each kind of node, by what evaluates its parts.
 use Rattle.std.specs.Prelude.{ℕ, nat_lt, Bool, true, false, not, ◌&&◌, if◌then◌else◌, ◌+◌, List, [], ◌∷◌, ◌++◌, length, Option, Some, None, is_some, slice_get, unwrap_or}
-use Rattle.ocl_values.specs.Shape.{canon, sizes_of}
+use Rattle.ocl_values.specs.Shape.{canon, size_of, sizes_of}
 use Rattle.ocl_values.specs.declared.value.Kind.{Kind}
 use Rattle.ocl_values.specs.declared.value.Kind.TheVariants.{Set}
 use Rattle.ocl_values.specs.declared.value.Value.{Value, items-the_row-Value}
@@ -32,7 +32,7 @@ use Rattle.ocl_operations.specs.Sources.{as_source}
 use Rattle.ocl_operations.specs.Types.{plain_tested, tested}
 use Rattle.ocl_eval.specs.declared.parts.Made.{Made}
 use Rattle.ocl_eval.specs.declared.walks.Visited.{Visited}
-use Rattle.ocl_eval.specs.Evaluations.{Evaluation, ◌>>=◌, pure, exhausted, pay, walk}
+use Rattle.ocl_eval.specs.Evaluations.{Evaluation, ◌>>=◌, ◌>>◌, pure, exhausted, pay, spend, walk}
 use Rattle.ocl_eval.specs.Scenes.{Scene, derived_body, look, query_called, within}
 use Rattle.ocl_core.specs.Trees.{Layer, PartLayer}
 
@@ -202,6 +202,10 @@ module _ (ev : List Value → Expr → Evaluation Value) (env : List Value) wher
     first ← maybe start
     v ← over_source op n first body (as_source x)
     pay v
+
+-- an operation of a source and an argument that cost their sizes
+abbrev pub plain_ready : PlainOp → Value → Value → Evaluation Value
+plain_ready op x y = spend (size_of x) >> spend (size_of y) >> pay (plain_value op x (y ∷ []))
 
 -- ---- nodes that look at a state
 

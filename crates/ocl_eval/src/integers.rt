@@ -28,7 +28,7 @@ fn integer_in(value: &Value) -> Option<i128>
 /// The value that stands ready as a literal or in the environment.
 #[tactic(auto, unfolding(crate::specs::Integers::at_hand))]
 #[inline]
-fn at_hand<'a>(e: &'a Expr, locals: &'a Values) -> Option<&'a Value>
+pub(crate) fn at_hand<'a>(e: &'a Expr, locals: &'a Values) -> Option<&'a Value>
     ensures { option_copied result ≡ at_hand locals.now e.now }
 {
     match e {
@@ -182,6 +182,33 @@ where
         let x = self.integer(a, locals, meter, steps)?;
         let y = self.integer(b, locals, meter, steps)?;
         pay(self.setting.states, of_integers(op, x, y), meter, steps)
+    }
+
+    /// The value of a part, which often is of size 1 and stands ready.
+    #[inline]
+    pub(crate) fn operand(
+        &self,
+        e: &Expr,
+        locals: &mut Values,
+        meter: &mut Meter,
+        steps: &mut S,
+    ) -> Result<Value, Stop>
+        requires parts { Evaluates V.now V.pre V.count self.now.setting.levels (F.pre self.now.value) (F.post self.now.value) }
+        requires program { IsSoundProgram self.now.setting.program.now }
+        requires tree { IsSound e.now }
+        ensures value { Gives ((ev_in V.now V.pre self.now.setting) locals.old e.now meter.old) result meter.new }
+        ensures well_made { IfOk result IsWellMade }
+        ensures locals { locals.new ≡ locals.old }
+        ensures ticks { V.count steps.new + meter.new.fuel ≡ V.count steps.old + meter.old.fuel }
+    {
+        if meter.fuel > 0 && self.setting.levels > 0 {
+            if let Some(value) = small_ready(e, locals) {
+                meter.fuel -= 1;
+                self.setting.states.tick_by(1, steps);
+                return Ok(value);
+            }
+        }
+        self.part(e, locals, meter, steps)
     }
 
     /// Whether a value equals an operand, which often stands ready and is then not evaluated.

@@ -1,15 +1,17 @@
-ghost use Rattle.std.specs.Prelude.{◌≡◌, ◌+◌, ◌++◌, ◌∷◌, [], All, IfOk, MatchOption, None, ⊤};
+ghost use Rattle.std.specs.Prelude.{◌≡◌, ◌+◌, ◌++◌, ◌∷◌, [], All, ◌<◌, IfOk, IfSome, MatchOption, None, Some, ⊤};
 ghost use Rattle.ocl_values.specs.Shape.{IsWellMade};
 ghost use Rattle.ocl_eval.specs.Parts.{Evaluates, ev_in};
 ghost use Rattle.ocl_eval.specs.Evaluations.{Gives, pay};
-ghost use Rattle.ocl_eval.specs.Nodes.{applied, bind, binary, branch, choice, collection, entry_of, paid, plain, right, to_set, unary, values};
+ghost use Rattle.ocl_eval.specs.Integers.{at_hand};
+ghost use Rattle.ocl_eval.specs.Nodes.{applied, bind, binary, branch, choice, collection, entry_of, paid, plain, plain_ready, right, to_set, unary, values};
 ghost use Rattle.ocl_collections.specs.Operations.{coll_op_value};
 ghost use Rattle.ocl_operations.specs.Operators.{plain_value};
 ghost use Rattle.ocl_operations.specs.Sources.{as_source};
 ghost use Rattle.ocl_core.specs.Trees.{IsSound};
 ghost use Rattle.ocl_core.specs.Programs.{IsSoundProgram};
 
-use crate::costs::pay;
+use crate::costs::{pay, spend_for};
+use crate::integers::at_hand;
 use crate::{Meter, Setting, States, Stop, Values};
 use ocl_collections::apply_owned;
 use ocl_core::{BinaryOp, CollOp, Expr, PlainOp, UnaryOp};
@@ -359,7 +361,37 @@ where
         Ok(done)
     }
 
-    /// An operation of a source and its arguments; most have one, which needs no list.
+    /// An operation of a source and two arguments.
+    #[tactic(auto, unfolding(crate::specs::Nodes::values))]
+    #[inline]
+    fn plain_of_two(
+        &self,
+        op: PlainOp,
+        x: Value,
+        b: &Expr,
+        c: &Expr,
+        locals: &mut Values,
+        meter: &mut Meter,
+        steps: &mut S,
+    ) -> Result<Value, Stop>
+        requires parts { Evaluates V.now V.pre V.count self.now.setting.levels (F.pre self.now.value) (F.post self.now.value) }
+        requires program { IsSoundProgram self.now.setting.program.now }
+        requires first { IsSound b.now }
+        requires second { IsSound c.now }
+        requires well { IsWellMade x }
+        ensures value { Gives (applied (ev_in V.now V.pre self.now.setting) locals.old (plain_value op) x (b.now ∷ c.now ∷ []) meter.old) result meter.new }
+        ensures well_made { IfOk result IsWellMade }
+        ensures locals { locals.new ≡ locals.old }
+        ensures ticks { V.count steps.new + meter.new.fuel ≡ V.count steps.old + meter.old.fuel }
+    {
+        let y = self.operand(b, locals, meter, steps)?;
+        let z = self.operand(c, locals, meter, steps)?;
+        let args = [y, z];
+        let value = plain(self.setting.alloc, op, &x, &args)?;
+        pay(self.setting.states, value, meter, steps)
+    }
+
+    /// An operation of a source and its arguments; most have one or two, which need no list.
     #[tactic(auto, unfolding(crate::specs::Nodes::values))]
     #[inline]
     fn plain_of(
@@ -381,18 +413,22 @@ where
         ensures ticks { V.count steps.new + meter.new.fuel ≡ V.count steps.old + meter.old.fuel }
     {
         if let [b] = args {
-            let y = self.part(b, locals, meter, steps)?;
+            let y = self.operand(b, locals, meter, steps)?;
             let value = plain(self.setting.alloc, op, &x, slice::from_ref(&y))?;
             return pay(self.setting.states, value, meter, steps);
+        }
+        if let [b, c] = args {
+            return self.plain_of_two(op, x, b, c, locals, meter, steps);
         }
         let xs = self.values(Values::new(self.setting.alloc), args, locals, meter, steps)?;
         let value = plain(self.setting.alloc, op, &x, xs.as_slice())?;
         pay(self.setting.states, value, meter, steps)
     }
 
+    /// An operation of a source and its arguments, which are evaluated.
     #[tactic(auto, unfolding(crate::specs::Nodes::plain))]
-    #[inline(never)]
-    pub(crate) fn plain(
+    #[inline]
+    fn plain_parts(
         &self,
         op: PlainOp,
         all: &[Expr],
@@ -415,6 +451,75 @@ where
                 self.plain_of(op, x, args, locals, meter, steps)
             }
         }
+    }
+
+    /// A source and an argument that both stand ready.
+    #[inline]
+    fn both_ready<'b>(
+        &self,
+        a: &'b Expr,
+        b: &'b Expr,
+        locals: &'b Values,
+    ) -> Option<(&'b Value, &'b Value)>
+        ensures ready { IfSome result (λ r. (0 < self.now.setting.levels) × (at_hand locals.now a.now ≡ Some r.0.now) × (at_hand locals.now b.now ≡ Some r.1.now)) }
+    {
+        if self.setting.levels == 0 {
+            return None;
+        }
+        match at_hand(a, locals) {
+            None => None,
+            Some(x) => match at_hand(b, locals) {
+                None => None,
+                Some(y) => Some((x, y)),
+            },
+        }
+    }
+
+    /// An operation of a source and an argument that stand ready, and are not copied.
+    #[inline]
+    fn plain_ready(
+        &self,
+        op: PlainOp,
+        x: &Value,
+        y: &Value,
+        meter: &mut Meter,
+        steps: &mut S,
+    ) -> Result<Value, Stop>
+        ensures value { Gives (plain_ready op x.now y.now meter.old) result meter.new }
+        ensures well_made { IfOk result IsWellMade }
+        ensures ticks { V.count steps.new + meter.new.fuel ≡ V.count steps.old + meter.old.fuel }
+    {
+        spend_for(self.setting.states, x, meter, steps)?;
+        spend_for(self.setting.states, y, meter, steps)?;
+        let value = plain(self.setting.alloc, op, x, slice::from_ref(y))?;
+        pay(self.setting.states, value, meter, steps)
+    }
+
+    /// An operation of a source and its arguments. Where both it and its one argument stand ready,
+    /// neither is copied.
+    #[inline(never)]
+    pub(crate) fn plain(
+        &self,
+        op: PlainOp,
+        all: &[Expr],
+        locals: &mut Values,
+        meter: &mut Meter,
+        steps: &mut S,
+    ) -> Result<Value, Stop>
+        requires parts { Evaluates V.now V.pre V.count self.now.setting.levels (F.pre self.now.value) (F.post self.now.value) }
+        requires program { IsSoundProgram self.now.setting.program.now }
+        requires trees { All IsSound all.now }
+        ensures value { Gives (plain (ev_in V.now V.pre self.now.setting) locals.old op all.now meter.old) result meter.new }
+        ensures well_made { IfOk result IsWellMade }
+        ensures locals { locals.new ≡ locals.old }
+        ensures ticks { V.count steps.new + meter.new.fuel ≡ V.count steps.old + meter.old.fuel }
+    {
+        if let [a, b] = all {
+            if let Some((x, y)) = self.both_ready(a, b, locals) {
+                return self.plain_ready(op, x, y, meter, steps);
+            }
+        }
+        self.plain_parts(op, all, locals, meter, steps)
     }
 
     /// The same of a collection.
