@@ -1,13 +1,12 @@
 ghost use Rattle.std.specs.Prelude.{◌≡◌, All, IfOk, OnOk, Some, length};
 ghost use Rattle.std.specs.Str.Lossy.{utf8_lossy};
 ghost use Rattle.use_text.specs.Tokens.{IsWithin};
-ghost use Rattle.soil_scope.specs.Shells.{with_name};
 ghost use Rattle.soil_check.specs.Shell.{is_taken, name_of, shell_names, taken_by};
 
 use crate::Scope;
 use soil_scope::ShellNames;
 use std::alloc::{AllocError, Global};
-use std::{mem, str};
+use std::str;
 use use_decls::is_name_kind;
 use use_text::Token;
 
@@ -16,14 +15,6 @@ fn is_taken<S: Scope>(scope: &S, is_block: bool, name: &str) -> bool
     ensures { result ≡ is_taken (S.known scope.now) is_block name.now }
 {
     is_block || scope.shell(name).is_some()
-}
-
-fn add_name(alloc: Global, names: &mut ShellNames, name: &str) -> Result<(), AllocError>
-    ensures { OnOk result (names.new ≡ with_name names.old name.now) }
-{
-    let before = mem::replace(names, ShellNames::new(alloc));
-    *names = before.with_name(alloc, name)?;
-    Ok(())
 }
 
 /// Adds a name, if a command takes it from the shell and it is not listed yet.
@@ -37,7 +28,7 @@ fn add_taken<S: Scope>(
     ensures { OnOk result (names.new ≡ taken_by (S.known scope.now) is_block names.old (Some name.now)) }
 {
     if is_taken(scope, is_block, name) {
-        add_name(alloc, names, name)
+        names.add(alloc, name)
     } else {
         Ok(())
     }

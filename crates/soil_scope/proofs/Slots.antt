@@ -1,5 +1,7 @@
 -- A name more among those of the shell.
-use Rattle.std.proofs.Common.{◌≡◌, ℕ, ◌+◌, Bool, true, false, cond, List, [], ◌∷◌, ◌++◌, length, Option, Some, None, refl, arith}
+use Rattle.std.proofs.Common.{◌≡◌, ℕ, ◌+◌, ◌<◌, Bool, true, false, cond, List, [], ◌∷◌, ◌++◌, get_or, length, take, Option, Some, None, Result, Ok, Err, OnOk, refl, ap, ◌∙◌, le_of_lt, arith}
+use Rattle.std.proofs.lemmas.List.{length-take-le}
+use Rattle.class_decls.proofs.Numbered.{take-more}
 use Rattle.std.specs.List.{position_from}
 use Rattle.std.specs.Option.{option_or}
 use Rattle.class_decls.specs.Texts.{same_text}
@@ -23,3 +25,13 @@ pub slot_behind : (names : List (List ℕ)) (name other : List ℕ) →
 slot_behind names name other =
     let z : 0 + length names ≡ length names = omega arith in
     rw z at (position_behind (λ n. same_text n other) 0 names name)
+
+pub slot_more : (names : List (List ℕ)) (i : ℕ) (x : List ℕ) → i < length names → x ≡ get_or names i x → (other : List ℕ) →
+    slot_of (take (i + 1) names) other ≡ option_or (slot_of (take i names) other) (cond (same_text x other) (Some i) None)
+slot_more names i x h e other =
+    ap (λ l. slot_of l other) (take-more names i x h e) ∙ slot_behind (take i names) x other
+    ∙ ap (λ n. option_or (slot_of (take i names) other) (cond (same_text x other) (Some n) None)) (length-take-le i names (le_of_lt h))
+
+pub on_ok : {A E P Q : Type 0} (r : Result A E) → (P → Q) → OnOk r P → OnOk r Q
+on_ok (Ok a) f h = f h
+on_ok (Err e) f h = tt
