@@ -3,9 +3,9 @@ ghost use Rattle.use_syntax.specs.Language.{language};
 
 use crate::texts::{decls_of, language};
 use class_decls::{
-    CondDecl, CondKind, Decls, NameSet, OpDecl, bad_multiplicity, head_in,
-    name_declared_twice, op_text, operation_declared_twice, parent_named_twice, too_many_assocs,
-    too_many_classes, too_many_invariants, too_many_literals, unknown_type,
+    CondDecl, CondKind, Decls, NameSet, OpDecl, bad_multiplicity, head_in, name_declared_twice,
+    op_text, operation_declared_twice, parent_named_twice, too_many_assocs, too_many_classes,
+    too_many_invariants, too_many_literals, unknown_type,
 };
 use class_rules::Hierarchy;
 use grammar_core::Grammar;
