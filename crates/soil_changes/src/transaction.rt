@@ -200,21 +200,23 @@ impl Transaction {
         take_back(self.alloc, &mut self.store, &mut self.frames, changes)
     }
 
-    /// The store as it stands now with the frames of the calls that are open, and the changes that led
-    /// there.
-    pub fn into_parts(self) -> (ReferrerStore, Frames, Items<Change>)
-        ensures store { result.0 ≡ diagram_of self }
-        ensures frames { result.1 ≡ self.frames }
-        ensures changes { result.2 ≡ self.changes }
+    /// Ends it: gives the store back as it stands now, with the frames of the calls that are open. The
+    /// changes that led there are told.
+    pub fn end(self, store: &mut ReferrerStore, frames: &mut Frames) -> Items<Change>
+        ensures store { store.new ≡ diagram_of self }
+        ensures frames { frames.new ≡ self.frames }
+        ensures changes { result ≡ self.changes }
         ensures lead { Lead self.layout self.start self.changes self.state }
     {
         self.store.state_is_valid();
         let Transaction {
-            store,
-            frames,
+            store: left,
+            frames: open,
             changes,
             ..
         } = self;
-        (store, frames, Items::from_vec(changes))
+        *store = left;
+        *frames = open;
+        Items::from_vec(changes)
     }
 }

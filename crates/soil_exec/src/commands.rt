@@ -12,7 +12,7 @@ ghost use Rattle.soil_exec.specs.Kept.{Gives, IsCurrent, IsOfModel, stand};
 ghost use Rattle.soil_exec.specs.Machine.{begin};
 
 use crate::evaluators::Counting;
-use crate::execution::{begin, setting_of};
+use crate::execution::{begin, beginning, setting_of};
 use crate::{Evaluator, ExecFault, Machine, Setting};
 use class_model::OpNo;
 use entry_states::{Call, Frames};
@@ -101,11 +101,11 @@ pub fn call_to_enter<L: Ledger>(
 {
     store.state_is_valid();
     let mut frames = Frames::new(alloc);
-    let mut machine = begin(alloc, program, shell, bound, store, &mut frames)?;
+    let (shell, env) = beginning(alloc, shell, bound, store)?;
+    let mut machine = begin(alloc, program, shell, env, store, &mut frames);
     let setting = setting_of(program, &Counting);
     let found = machine.entering(&setting, place, receiver, op, args, steps);
-    let (left, _, _) = machine.into_transaction().into_parts();
-    *store = left;
+    machine.into_transaction().end(store, &mut frames);
     found
 }
 
@@ -131,10 +131,10 @@ pub fn value_to_give<L: Ledger>(
 {
     store.state_is_valid();
     let mut frames = Frames::new(alloc);
-    let mut machine = begin(alloc, program, shell, bound, store, &mut frames)?;
+    let (shell, env) = beginning(alloc, shell, bound, store)?;
+    let mut machine = begin(alloc, program, shell, env, store, &mut frames);
     let setting = setting_of(program, &Counting);
     let given = machine.giving(&setting, place, e, steps);
-    let (left, _, _) = machine.into_transaction().into_parts();
-    *store = left;
+    machine.into_transaction().end(store, &mut frames);
     given
 }

@@ -1,6 +1,7 @@
-ghost use Rattle.std.specs.Prelude.{◌≡◌, ◌++◌, ◌<◌, ◌≤◌, ◌^◌, ℕ, All, Err, IfOk, None, OnOk, length, map, true};
+ghost use Rattle.std.specs.Prelude.{◌≡◌, ◌++◌, ◌<◌, ◌≤◌, ◌^◌, ℕ, List, All, Err, IfOk, None, OnOk, length, map, true};
 ghost use Rattle.use_orders.specs.Canon.{all_differ};
 ghost use Rattle.ocl_values.specs.Shape.{IsWellMade};
+ghost use Rattle.ocl_values.specs.declared.value.Value.{Value};
 ghost use Rattle.object_state.specs.Layouts.{layout_of};
 ghost use Rattle.object_state.specs.State.{text_cmp};
 ghost use Rattle.soil_changes.specs.Progress.{Lead};
@@ -115,72 +116,88 @@ fn no_store(alloc: Global) -> ReferrerStore {
     )
 }
 
-/// What statements work on at first; the store and the frames go there.
-pub(crate) fn begin(
+/// The names of the shell, and the environment in which statements begin.
+pub(crate) fn beginning(
     alloc: Global,
-    program: &Program,
     shell: Items<Text>,
     bound: Vec<Value>,
-    store: &mut ReferrerStore,
-    frames: &mut Frames,
-) -> Result<Machine, AllocError>
+    store: &ReferrerStore,
+) -> Result<(Shell, Env), AllocError>
     requires few { length shell < 2 ^ 32 }
     requires differ { all_differ text_cmp shell ≡ true }
     requires bound { All IsWellMade bound.items }
-    requires of_model { store.old.layout ≡ layout_of program.now.model }
-    ensures begins { IfOk result (λ m. (steps : ℕ) → stand m steps ≡ begin store.old frames.old shell bound.items steps) }
-    ensures current { IfOk result IsCurrent }
-    ensures of_model { IfOk result (IsOfModel program.now.model) }
-    ensures depth { IfOk result (λ m. length m.transaction.frames ≡ length frames.old) }
+    ensures shell { IfOk result (λ r. r.0 ≡ shell) }
+    ensures env { IfOk result (λ r. r.1 ≡ map (shell_value store.now.state) r.0 ++ bound.items) }
 {
-    program.model().has_numbers_in_range();
     let shell = Shell::new(alloc, shell)?;
     let env = environment(alloc, store, shell.as_slice(), bound)?;
+    Ok((shell, env))
+}
+
+/// What statements work on at first; the store and the frames go there.
+#[inline]
+pub(crate) fn begin(
+    alloc: Global,
+    program: &Program,
+    shell: Shell,
+    env: Env,
+    store: &mut ReferrerStore,
+    frames: &mut Frames,
+) -> Machine
+    requires of_model { store.old.layout ≡ layout_of program.now.model }
+    ensures started { (bound : List Value) → env ≡ map (shell_value store.old.state) shell ++ bound
+        → ((steps : ℕ) → stand result steps ≡ begin store.old frames.old shell bound steps) × IsCurrent result }
+    ensures of_model { IsOfModel program.now.model result }
+    ensures depth { length result.transaction.frames ≡ length frames.old }
+{
+    program.model().has_numbers_in_range();
     let taken = mem::replace(store, no_store(alloc));
     let open = mem::replace(frames, Frames::new(alloc));
-    Ok(Machine {
+    Machine {
         alloc,
         transaction: Transaction::begin(alloc, taken, open),
         shell,
         env,
         left: MAX_STATEMENTS,
-    })
+    }
 }
 
-/// What is left of a refused transaction: all changes are taken back.
-fn go_back(transaction: Transaction, fault: ExecFault) -> (ReferrerStore, Frames, ExecFault)
-    ensures { GoesBack transaction fault result.0 result.1 (Err result.2) }
+/// Ends a refused transaction: all changes are taken back.
+fn go_back(
+    transaction: Transaction,
+    fault: ExecFault,
+    store: &mut ReferrerStore,
+    frames: &mut Frames,
+) -> ExecFault
+    ensures { GoesBack transaction fault store.new frames.new (Err result) }
 {
     let mut transaction = transaction;
     transaction.changes_lead();
     let back = transaction.roll_back();
-    let (left, frames, _) = transaction.into_parts();
+    transaction.end(store, frames);
     match back {
-        Ok(()) => (left, frames, fault),
-        Err(_) => (left, frames, ExecFault::Memory),
+        Ok(()) => fault,
+        Err(_) => ExecFault::Memory,
     }
 }
 
 /// Ends a transaction: its changes stay, or all are taken back.
+#[inline]
 fn finish(
     transaction: Transaction,
     ended: Result<(), ExecFault>,
-) -> (ReferrerStore, Frames, Result<Items<Change>, ExecFault>)
-    ensures { Ends transaction ended result.0 result.1 result.2 }
+    store: &mut ReferrerStore,
+    frames: &mut Frames,
+) -> Result<Items<Change>, ExecFault>
+    ensures { Ends transaction ended store.new frames.new result }
 {
     match ended {
-        Ok(()) => {
-            let (left, frames, changes) = transaction.into_parts();
-            (left, frames, Ok(changes))
-        }
+        Ok(()) => Ok(transaction.end(store, frames)),
         Err(ExecFault::Memory) => {
-            let (left, frames, _) = transaction.into_parts();
-            (left, frames, Err(ExecFault::Memory))
+            transaction.end(store, frames);
+            Err(ExecFault::Memory)
         }
-        Err(fault) => {
-            let (left, frames, told) = go_back(transaction, fault);
-            (left, frames, Err(told))
-        }
+        Err(fault) => Err(go_back(transaction, fault, store, frames)),
     }
 }
 
@@ -213,10 +230,8 @@ pub fn execute<L: Ledger>(
 {
     program.is_checked();
     store.state_is_valid();
-    let mut machine = begin(alloc, program, shell, bound, store, frames)?;
+    let (shell, env) = beginning(alloc, shell, bound, store)?;
+    let mut machine = begin(alloc, program, shell, env, store, frames);
     let ended = run(program, body, &mut machine, steps);
-    let (left, open, told) = finish(machine.into_transaction(), ended);
-    *store = left;
-    *frames = open;
-    told
+    finish(machine.into_transaction(), ended, store, frames)
 }

@@ -1,4 +1,4 @@
-use Rattle.std.proofs.Common.{◌<◌, List, [], length, sym, subst, ap, ◌∙◌}
+use Rattle.std.proofs.Common.{◌<◌, ℕ, List, [], length, sym, subst, ap, ◌∙◌}
 use Rattle.std.specs.Prelude.{IfOk}
 use Rattle.ocl_core.specs.declared.program.ProgramParts.{ProgramParts}
 use Rattle.object_state.specs.State.{Diagram}
@@ -18,7 +18,7 @@ entering-found-requires-clause-op g c =
 
 pub entering-found-requires-clause-of_model : goal.entering-found-requires-clause-of_model
 entering-found-requires-clause-of_model g c =
-    subst (λ (q : ProgramParts). IsOfModel q.model c.in_ok-machine.machine) (sym c.setting_of-setting.ensures.program) c.in_ok-machine.ensures.of_model
+    subst (λ (q : ProgramParts). IsOfModel q.model c.begin-machine.result) (sym c.setting_of-setting.ensures.program) c.begin-machine.ensures.of_model
 
 pub returns-clause-is_call : goal.returns-clause-is_call
 returns-clause-is_call g c =
@@ -37,10 +37,15 @@ returns-clause-finds g c =
     let r = c.entering-found.result in
     let last = c.entering-found.new.self in
     let n = c.entering-found.new.steps in
-    let first = c.in_ok-machine.ensures.begins before ∙ ap (λ (fs : List Frame). begin d fs c.args.shell bound before) c.new-frames.ensures in
-    let by_setting = subst (λ (q : ProgramParts). Gives (entering q at e op es (stand c.in_ok-machine.machine before)) r (stand last n))
+    let first = (c.begin-machine.ensures.started bound c.in_ok-shell.ensures.env).0 before
+    ∙ ap (λ (names : List (List ℕ)). begin d c.new-frames.result names bound before) c.in_ok-shell.ensures.shell
+    ∙ ap (λ (fs : List Frame). begin d fs c.args.shell bound before) c.new-frames.ensures in
+    let by_setting = subst (λ (q : ProgramParts). Gives (entering q at e op es (stand c.begin-machine.result before)) r (stand last n))
     c.setting_of-setting.ensures.program c.entering-found.ensures.gives in
     let gives = subst (λ (m : Machine). Gives (entering p at e op es m) r (stand last n)) first by_setting in
-    let left = c.into_parts-left.ensures.store ∙ ap diagram_of c.into_transaction.ensures in
+    let left = c.end.ensures.store ∙ ap diagram_of c.into_transaction.ensures in
     subst (λ (x : Diagram). Finds d (entering p at e op es (begin d [] c.args.shell bound 0)) before r x n) (sym left)
     (entering_finds p at e op es d c.args.shell bound before r last n gives)
+
+pub entering-found-requires-clause-current : goal.entering-found-requires-clause-current
+entering-found-requires-clause-current g c = (c.begin-machine.ensures.started c.args.bound.items c.in_ok-shell.ensures.env).1

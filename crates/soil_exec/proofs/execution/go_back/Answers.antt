@@ -7,5 +7,5 @@ use Rattle.soil_exec.proofs.execution.go_back.Goals as goal
 pub returns-in-Ok : goal.returns-in-Ok
 returns-in-Ok c =
     let p = c.args.transaction in
-    goes_back p c.args.fault c.into_parts-left.result.0 c.into_parts-left.result.1 (c.into_parts-left.ensures.store ∙ c.in-Ok.ensures.start) c.changes_lead.ensures
-    (subst (λ (fs : List Frame). AreNoted p.layout p.state p.start p.frames fs) (sym c.into_parts-left.ensures.frames) c.in-Ok.ensures.noted)
+    goes_back p c.args.fault c.end.new.store c.end.new.frames (c.end.ensures.store ∙ c.in-Ok.ensures.start) c.changes_lead.ensures
+    (subst (λ (fs : List Frame). AreNoted p.layout p.state p.start p.frames fs) (sym c.end.ensures.frames) c.in-Ok.ensures.noted)

@@ -1,7 +1,7 @@
 use Rattle.std.proofs.Common.{subst}
 use Rattle.soil_changes.specs.Progress.{Lead, Progress}
 use Rattle.soil_changes.proofs.Back.{lead}
-use Rattle.soil_changes.proofs.transaction.Transaction.into_parts.Goals as goal
+use Rattle.soil_changes.proofs.transaction.Transaction.end.Goals as goal
 
 pub returns-clause-lead : goal.returns-clause-lead
 returns-clause-lead c =
